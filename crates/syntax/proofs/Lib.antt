@@ -1,0 +1,5 @@
+pub mod Spelled
+pub mod Letters
+pub mod Codes
+pub mod Groups
+pub mod SymbolBytes

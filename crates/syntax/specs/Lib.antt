@@ -1,0 +1,9 @@
+pub mod Faults
+pub mod Labels
+pub mod Kinds
+pub mod Names
+pub mod Arguments
+pub mod Readers
+pub mod Groups
+pub mod Texts
+pub mod SymbolBytes

@@ -1,0 +1,9 @@
+// The syntax of rules: kinds of nodes, their arguments, and the refusals.
+pub mod argument;
+pub mod fault;
+pub mod group;
+pub mod kind;
+pub mod label;
+pub mod name;
+pub mod symbol_bytes;
+pub mod text;
