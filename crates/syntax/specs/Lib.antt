@@ -7,3 +7,5 @@ pub mod Readers
 pub mod Groups
 pub mod Texts
 pub mod SymbolBytes
+pub mod Trees
+pub mod Files
