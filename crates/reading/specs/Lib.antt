@@ -1,2 +1,5 @@
 pub mod Readings
 pub mod Twice
+pub mod NameStrings
+pub mod NamesRule
+pub mod NameSets

@@ -10,6 +10,8 @@ use syntax::argument::Symbol;
 use syntax::fault::Fault;
 use syntax::kind::Kind;
 
+mod name_set;
+pub mod names;
 pub mod twice;
 
 // The number at which a meter is full.
