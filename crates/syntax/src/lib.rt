@@ -5,5 +5,6 @@ pub mod group;
 pub mod kind;
 pub mod label;
 pub mod name;
+pub mod scan;
 pub mod symbol_bytes;
 pub mod text;
