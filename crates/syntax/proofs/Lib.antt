@@ -6,3 +6,4 @@ pub mod SymbolBytes
 pub mod Prefixes
 pub mod Forests
 pub mod Scans
+pub mod Decimals

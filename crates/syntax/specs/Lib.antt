@@ -10,3 +10,4 @@ pub mod SymbolBytes
 pub mod Trees
 pub mod Files
 pub mod Scans
+pub mod ArgumentTexts

@@ -1,5 +1,7 @@
 // The syntax of rules: kinds of nodes, their arguments, and the refusals.
 pub mod argument;
+pub mod argument_text;
+pub mod decimal;
 pub mod fault;
 pub mod group;
 pub mod kind;
