@@ -1,12 +1,15 @@
--- The codes of kinds. Assumes nothing.
+-- The codes of kinds and of labels tell them apart. Assumes nothing.
 use mathlib.Core.Path.{_≡_, refl, sym, ap, _∙_}
 use mathlib.Core.Bool.{cond}
 use Prim.Native.Nat.{ℕ, _<_}
 use native.Mathlib.Omega.{arith}
 use lib.Dec.{eqb}
 use Rattle.syntax.specs.Kinds.{codeOf, arity}
+use Rattle.syntax.specs.Labels.{labelCode}
 use Rattle.syntax.specs.declared.kind.Kind.{Kind}
 use Rattle.syntax.specs.declared.kind.Kind.the-variants.{Hole, Num, Var, Nil, Lam, Fix, Sel, App, Add, Ext, Ifz}
+use Rattle.syntax.specs.declared.label.Label.{Label}
+use Rattle.syntax.specs.declared.label.Label.the-variants.{Row, Col, Ink, Lit}
 
 -- the kind of a code
 coded : ℕ → Kind
@@ -46,3 +49,23 @@ code-below Ifz = omega arith
 
 pub arity-below : (k : Kind) → arity k < 4
 arity-below k = omega (arith, code-below k)
+
+-- the label of a code
+labelled : ℕ → Label
+labelled n = cond (eqb n 0) Row (cond (eqb n 1) Col (cond (eqb n 2) Ink Lit))
+
+labelled-code : (l : Label) → labelled (labelCode l) ≡ l
+unfolding labelled
+labelled-code Row = refl
+labelled-code Col = refl
+labelled-code Ink = refl
+labelled-code Lit = refl
+
+pub same-from-label-code : (l m : Label) → labelCode l ≡ labelCode m → l ≡ m
+same-from-label-code l m e = sym (labelled-code l) ∙ ap labelled e ∙ labelled-code m
+
+pub label-below : (l : Label) → labelCode l < 4
+label-below Row = omega arith
+label-below Col = omega arith
+label-below Ink = omega arith
+label-below Lit = omega arith

@@ -4,8 +4,9 @@ use mathlib.Core.Logic.{_⊎_, inl, inr}
 use mathlib.Core.List.{List, [], _∷_, _++_}
 use Prim.Native.Nat.{ℕ, zero, suc, _+_, _-_, _*_, _/_, _%_, _<_, _≤_}
 use native.Mathlib.Omega.{arith}
-use lib.ListN.{length, length-append}
-use Rattle.std.proofs.shelf.Tests.{lt-ltb, le-ltb, cases-lt}
+use lib.Dec.{ltb}
+use lib.ListN.{length}
+use Rattle.std.proofs.shelf.Tests.{lt-ltb, le-ltb, cases-lt, cond-both}
 use Rattle.syntax.specs.Groups.{bound, groups}
 
 pub groups-small : (more n : ℕ) → n < 128 → groups more n ≡ n ∷ []
@@ -30,6 +31,11 @@ bound-more (suc more) n some fits = let less : more ≡ suc more - 1 = omega ari
 pub bound-some : (more : ℕ) → 128 ≤ bound more
 bound-some zero = omega arith
 bound-some (suc more) = omega (arith, bound-some more)
+
+-- a number takes at least one byte
+pub groups-some : (more n : ℕ) → 0 < length (groups more n)
+groups-some zero n = omega arith
+groups-some (suc more) n = cond-both (ltb n 128) (n ∷ []) ((128 + n % 128) ∷ groups more (n / 128)) (λ z. 0 < length z) (λ _. omega arith) (λ _. omega arith)
 
 -- all but the last of three bytes
 pub bound-two : (more : ℕ) → more ≤ 1 → bound more ≤ 16384

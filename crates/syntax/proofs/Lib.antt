@@ -3,3 +3,7 @@ pub mod Letters
 pub mod Codes
 pub mod Groups
 pub mod SymbolBytes
+pub mod Prefixes
+pub mod Forests
+pub mod Scans
+pub mod Decimals

@@ -30,3 +30,13 @@ ofSort sort.Label (argument.Label l) = true
 
 abbrev pub fits : Symbol → Bool
 fits s = ofSort (sortOf (s .kind)) (s .argument)
+
+-- the sort that an argument is of, if it is well formed
+abbrev pub sortIs : Argument → Sort
+sortIs argument.Nothing = sort.Nothing
+sortIs (argument.Number n) = sort.Number
+sortIs (argument.Name n) = sort.Name
+sortIs (argument.Label l) = sort.Label
+
+abbrev pub sound : Argument → Bool
+sound a = ofSort (sortIs a) a

@@ -9,3 +9,5 @@ pub mod Texts
 pub mod SymbolBytes
 pub mod Trees
 pub mod Files
+pub mod Scans
+pub mod ArgumentTexts

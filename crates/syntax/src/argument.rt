@@ -2,7 +2,7 @@
 ghost use mathlib.Core.Bool.{cond};
 ghost use mathlib.Core.Path.{_≡_};
 ghost use Rattle.std.specs.declared.result.Result.the-variants.{Ok, Err};
-ghost use Rattle.syntax.specs.Arguments.{fits, ofSort};
+ghost use Rattle.syntax.specs.Arguments.{fits, ofSort, sortIs};
 ghost use Rattle.syntax.specs.declared.fault.Fault.the-variants.{Misfit};
 use crate::fault::Fault;
 use crate::kind::Kind;
@@ -35,6 +35,18 @@ pub struct Symbol {
 }
 
 impl Argument {
+    // The sort that the argument is of, if it is well formed.
+    pub fn sort(self) -> Sort
+        ensures { λ r. ⌜ r ≡ sortIs self ⌝ }
+    {
+        match self {
+            Argument::Nothing => Sort::Nothing,
+            Argument::Number(_) => Sort::Number,
+            Argument::Name(_) => Sort::Name,
+            Argument::Label(_) => Sort::Label,
+        }
+    }
+
     // Whether the argument is of a sort, well formed and in its range.
     pub fn is_of(self, sort: Sort) -> bool
         ensures { λ r. ⌜ r ≡ ofSort sort self ⌝ }

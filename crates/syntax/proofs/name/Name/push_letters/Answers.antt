@@ -1,0 +1,12 @@
+use mathlib.Core.Path.{sym, ap, _∙_}
+use mathlib.Core.List.{_++_}
+use native.Mathlib.Nat.{sub-zero}
+use lib.ListN.{take}
+use Rattle.syntax.specs.Texts.{textOf}
+use Rattle.syntax.proofs.Letters.{letters-front}
+use Rattle.syntax.proofs.name.Name.push_letters.Needs as need
+
+pub returns : need.returns
+returns c =
+    let bs = c .args .self .0 in
+    c .append .ensures ∙ ap (λ z. textOf (c .args .text .now) ++ z) (ap (λ n. take n bs) (sub-zero (c .len .result) ∙ c .len .ensures .value) ∙ sym (letters-front bs))
