@@ -93,5 +93,5 @@ answerRoom = 2048
 -- the call gives; a buffer that is too short for some answers is refused, and is as it was.
 abbrev pub Answered : List ℕ → List ℕ → List ℕ → Result ℕ Fault → Type 0
 Answered line before after r =
-    Cases r (λ n. (answerRoom ≤ length before) × ((text : List ℕ) × Answer line text × (n ≡ length text) × (after ≡ text ++ drop n before)))
+    Cases r (λ n. (answerRoom ≤ length before) × (n ≤ answerRoom) × ((text : List ℕ) × Answer line text × (n ≡ length text) × (after ≡ text ++ drop n before)))
     (λ fault. (fault ≡ ShortBuffer) × (length before < answerRoom) × (after ≡ before))

@@ -66,6 +66,7 @@ fn digit(n: u8) -> u8
 // Writes the digits of bytes at the front of a buffer.
 pub(crate) fn write_hex(bytes: &[u8], out: &mut [u8]) -> usize
     requires { ⌜ 2 * length (now bytes) ≤ length (now out) ⌝ }
+    ensures twice { λ r. ⌜ r ≡ 2 * length (now (bytes .entry)) ⌝ }
     ensures long { λ r. ⌜ r ≡ length (hex (now (bytes .entry))) ⌝ }
     ensures wrote { λ r. ⌜ now (out .exit) ≡ hex (now (bytes .entry)) ++ drop r (now (out .entry)) ⌝ }
 {

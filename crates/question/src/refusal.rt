@@ -29,6 +29,7 @@ fn refusal_text(fault: Fault) -> &'static [u8]
 // Writes a refusal at the front of a buffer.
 pub(crate) fn write_refusal(fault: Fault, out: &mut [u8]) -> usize
     requires { ⌜ 5 ≤ length (now out) ⌝ }
+    ensures bound { λ r. ⌜ r ≤ 5 ⌝ }
     ensures long { λ r. ⌜ r ≡ length (refused fault) ⌝ }
     ensures wrote { λ r. ⌜ now (out .exit) ≡ refused fault ++ drop r (now (out .entry)) ⌝ }
 {

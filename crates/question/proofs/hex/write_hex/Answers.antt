@@ -1,4 +1,4 @@
-use mathlib.Core.Path.{_≡_, sym, ap, ap₂, _∙_}
+use mathlib.Core.Path.{_≡_, refl, sym, ap, ap₂, _∙_}
 use Prim.Native.Nat.{_+_, _*_}
 use native.Mathlib.Omega.{arith}
 use lib.ListN.{length, set}
@@ -12,6 +12,7 @@ loop-i-again c =
 
 pub returns : need.returns
 returns c = record {
+  twice = refl;
   long = sym (length-hex (c .args .bytes .now));
   wrote = write-all (c .args .bytes .now) (c .args .out .now) (c .loop-i .out) (c .loop-i .i) (omega arith) (c .loop-i .inv);
 }
