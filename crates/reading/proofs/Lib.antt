@@ -4,3 +4,6 @@ pub mod Inserting
 pub mod Fours
 pub mod NameLists
 pub mod NamesLaws
+pub mod NameKeys
+pub mod Gathering
+pub mod FreeLists

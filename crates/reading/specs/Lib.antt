@@ -3,3 +3,4 @@ pub mod Twice
 pub mod NameStrings
 pub mod NamesRule
 pub mod NameSets
+pub mod FreeNames

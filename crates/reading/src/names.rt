@@ -4,6 +4,7 @@ ghost use mathlib.Core.Path.{_≡_};
 ghost use Prim.Native.Nat.{_<_, _≤_};
 ghost use Rattle.std.specs.Results.{Cases};
 ghost use Rattle.syntax.specs.declared.fault.Fault.the-variants.{Misfit};
+ghost use Rattle.reading.specs.FreeNames.{GivesFreeNames};
 ghost use Rattle.reading.specs.NameSets.{namesOf};
 ghost use Rattle.reading.specs.NamesRule.{binds, collected, named, nameIn, shows};
 ghost use Rattle.reading.specs.Readings.{meterEnd, texts};
@@ -27,9 +28,11 @@ pub struct Names {
 }
 
 impl Names {
-    // A names reading whose meter starts at a number.
+    // A names reading whose meter starts at a number. What the reading says of a tree are the tree's
+    // free names.
     pub fn new(start: u32) -> Result<Names, Fault>
-        ensures { λ r. ⌜ Cases r (λ x. (x .meter ≡ start) × (start ≤ meterEnd)) (λ fault. (fault ≡ Misfit) × (meterEnd < start)) ⌝ }
+        ensures names { λ _. ⌜ GivesFreeNames ⌝ }
+        ensures made { λ r. ⌜ Cases r (λ x. (x .meter ≡ start) × (start ≤ meterEnd)) (λ fault. (fault ≡ Misfit) × (meterEnd < start)) ⌝ }
     {
         if start > MAX_METER {
             return Err(Fault::Misfit);
