@@ -4,3 +4,4 @@ pub mod NameStrings
 pub mod NamesRule
 pub mod NameSets
 pub mod FreeNames
+pub mod WorkedNames
