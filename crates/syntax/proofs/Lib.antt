@@ -7,3 +7,6 @@ pub mod Prefixes
 pub mod Forests
 pub mod Scans
 pub mod Decimals
+pub mod Edits
+pub mod TextLengths
+pub mod EditLines

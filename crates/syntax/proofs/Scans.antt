@@ -19,17 +19,17 @@ use Rattle.syntax.proofs.Prefixes.{symbol-prefix}
 use Rattle.syntax.proofs.SymbolBytes.{NoSymbol}
 
 -- the first of some trees at the front of the bytes
-record First (bytes : List ℕ) (k : ℕ) (f : Forest Symbol) (end : List ℕ) : Type 0 where
-  s : Symbol
-  c : Forest Symbol
-  g : Forest Symbol
-  whole : f ≡ grow s c g
-  fit : fits s ≡ true
-  below : Begins (forestBytes c ++ (forestBytes g ++ end)) (arity (s .kind)) c (forestBytes g ++ end)
-  beside : Begins (forestBytes g ++ end) (k - 1) g end
-  front : bytes ≡ symbolBytes s ++ (forestBytes c ++ (forestBytes g ++ end))
+pub record First (bytes : List ℕ) (k : ℕ) (f : Forest Symbol) (end : List ℕ) : Type 0 where
+  pub s : Symbol
+  pub c : Forest Symbol
+  pub g : Forest Symbol
+  pub whole : f ≡ grow s c g
+  pub fit : fits s ≡ true
+  pub below : Begins (forestBytes c ++ (forestBytes g ++ end)) (arity (s .kind)) c (forestBytes g ++ end)
+  pub beside : Begins (forestBytes g ++ end) (k - 1) g end
+  pub front : bytes ≡ symbolBytes s ++ (forestBytes c ++ (forestBytes g ++ end))
 
-first : (bytes : List ℕ) (k : ℕ) (f : Forest Symbol) (end : List ℕ) → 0 < k → Begins bytes k f end → First bytes k f end
+pub first : (bytes : List ℕ) (k : ℕ) (f : Forest Symbol) (end : List ℕ) → 0 < k → Begins bytes k f end → First bytes k f end
 first bytes k none end some b = absurd (omega (arith, b .many))
 first bytes k (grow s c g) end some b =
     let (fit, many, wc, wg) = b .well in
@@ -52,7 +52,7 @@ begins-none bytes = record { well = tt; many = refl; spelled = refl }
 
 module _ (bytes rest : List ℕ) (s : Symbol) (fit : fits s ≡ true) (front : bytes ≡ symbolBytes s ++ rest) (k : ℕ) (some : 0 < k) where
   -- the first node is the one that was read
-  known : (f : Forest Symbol) (end : List ℕ) (b : Begins bytes k f end) → let h = first bytes k f end some b in (s ≡ h .s) × (rest ≡ forestBytes (h .c) ++ (forestBytes (h .g) ++ end))
+  pub known : (f : Forest Symbol) (end : List ℕ) (b : Begins bytes k f end) → let h = first bytes k f end some b in (s ≡ h .s) × (rest ≡ forestBytes (h .c) ++ (forestBytes (h .g) ++ end))
   known f end b = let h = first bytes k f end some b in symbol-prefix s (h .s) rest _ fit (h .fit) (sym front ∙ h .front)
 
   pub no-below : NoTrees rest (arity (s .kind)) → NoTrees bytes k

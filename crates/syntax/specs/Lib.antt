@@ -11,3 +11,5 @@ pub mod Trees
 pub mod Files
 pub mod Scans
 pub mod ArgumentTexts
+pub mod Edits
+pub mod EditAnswers

@@ -65,7 +65,8 @@ fn parse_text(sort: Sort, text: &[u8]) -> Option<Argument>
 pub(crate) fn push_argument(text: &mut Text, argument: Argument)
     requires sound { ⌜ sound argument ≡ true ⌝ }
     requires room { ⌜ length (textOf (now text)) + 6 ≤ 64 ⌝ }
-    ensures { λ _. ⌜ textOf (now (text .exit)) ≡ textOf (now (text .entry)) ++ argumentText argument ⌝ }
+    ensures bytes { λ _. ⌜ textOf (now (text .exit)) ≡ textOf (now (text .entry)) ++ argumentText argument ⌝ }
+    ensures len { λ _. ⌜ length (textOf (now (text .exit))) ≤ length (textOf (now (text .entry))) + 6 ⌝ }
 {
     match argument {
         Argument::Nothing => {}

@@ -37,7 +37,8 @@ pub fn read_decimal(text: &[u8]) -> Option<u32>
 // Adds the decimal of a number to a text.
 pub(crate) fn push_decimal(text: &mut Text, n: u32)
     requires { ⌜ length (textOf (now text)) + length (decimal n) ≤ 64 ⌝ }
-    ensures { λ _. ⌜ textOf (now (text .exit)) ≡ textOf (now (text .entry)) ++ decimal n ⌝ }
+    ensures bytes { λ _. ⌜ textOf (now (text .exit)) ≡ textOf (now (text .entry)) ++ decimal n ⌝ }
+    ensures len { λ _. ⌜ length (textOf (now (text .exit))) ≡ length (textOf (now (text .entry))) + length (decimal n) ⌝ }
 {
     if n < 10 {
         text.push(b'0' + n as u8);

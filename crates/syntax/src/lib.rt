@@ -2,6 +2,7 @@
 pub mod argument;
 pub mod argument_text;
 pub mod decimal;
+pub mod edit_lines;
 pub mod fault;
 pub mod group;
 pub mod kind;

@@ -58,7 +58,8 @@ impl Name {
     // Adds the letters to a text.
     pub(crate) fn push_letters(self, text: &mut Text)
         requires { ⌜ length (textOf (now text)) + 4 ≤ 64 ⌝ }
-        ensures { λ _. ⌜ textOf (now (text .exit)) ≡ textOf (now (text .entry)) ++ letters (self .0) ⌝ }
+        ensures bytes { λ _. ⌜ textOf (now (text .exit)) ≡ textOf (now (text .entry)) ++ letters (self .0) ⌝ }
+        ensures len { λ _. ⌜ length (textOf (now (text .exit))) ≤ length (textOf (now (text .entry))) + 4 ⌝ }
     {
         text.append(&self.0[0..self.len()]);
     }

@@ -10,7 +10,8 @@ use crate::text::Text;
 
 impl Text {
     pub fn new() -> Text
-        ensures { λ r. ⌜ textOf r ≡ [] ⌝ }
+        ensures bytes { λ r. ⌜ textOf r ≡ [] ⌝ }
+        ensures len { λ r. ⌜ length (textOf r) ≡ 0 ⌝ }
     {
         Text {
             bytes: [0; ROOM],
@@ -18,10 +19,17 @@ impl Text {
         }
     }
 
+    pub fn as_slice(&self) -> &[u8]
+        ensures { λ r. ⌜ now r ≡ textOf (now (self .entry)) ⌝ }
+    {
+        &self.bytes[0..self.len]
+    }
+
     // Adds a byte, for which there is room.
     pub(crate) fn push(&mut self, b: u8)
         requires { ⌜ length (textOf (now self)) < 64 ⌝ }
-        ensures { λ _. ⌜ textOf (now (self .exit)) ≡ textOf (now (self .entry)) ++ b ∷ [] ⌝ }
+        ensures bytes { λ _. ⌜ textOf (now (self .exit)) ≡ textOf (now (self .entry)) ++ b ∷ [] ⌝ }
+        ensures len { λ _. ⌜ length (textOf (now (self .exit))) ≡ length (textOf (now (self .entry))) + 1 ⌝ }
     {
         self.bytes[self.len] = b;
         self.len += 1;
@@ -30,7 +38,8 @@ impl Text {
     // Adds bytes, for which there is room.
     pub(crate) fn append(&mut self, more: &[u8])
         requires { ⌜ length (textOf (now self)) + length (now more) ≤ 64 ⌝ }
-        ensures { λ _. ⌜ textOf (now (self .exit)) ≡ textOf (now (self .entry)) ++ now (more .entry) ⌝ }
+        ensures bytes { λ _. ⌜ textOf (now (self .exit)) ≡ textOf (now (self .entry)) ++ now (more .entry) ⌝ }
+        ensures len { λ _. ⌜ length (textOf (now (self .exit))) ≡ length (textOf (now (self .entry))) + length (now (more .entry)) ⌝ }
     {
         for b in more {
             self.push(*b);

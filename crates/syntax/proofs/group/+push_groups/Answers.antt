@@ -11,12 +11,12 @@ use Rattle.syntax.proofs.group.+push_groups.Needs as need
 
 pub push-groups-requires : need.push-groups-requires
 push-groups-requires t c κs =
-    let longer = ap length (c .push-then-more-gt0 .ensures) ∙ length-push (textOf (c .args .text .now)) (128 + c .args .value % 128) in
+    let longer = ap length (c .push-then-more-gt0 .ensures .bytes) ∙ length-push (textOf (c .args .text .now)) (128 + c .args .value % 128) in
     (omega arith, (bound-more (c .args .more) (c .args .value) (c .if-more-gt0 .taken) (c .pre .group), omega (arith, longer, c .pre .room)))
 
 pub returns-then-value-lt128 : need.returns-then-value-lt128
 returns-then-value-lt128 t c =
-    c .push .ensures ∙ ap (λ z. textOf (c .args .text .now) ++ z) (sym (groups-small (c .args .more) (c .args .value) (c .if-value-lt128 .taken)))
+    c .push .ensures .bytes ∙ ap (λ z. textOf (c .args .text .now) ++ z) (sym (groups-small (c .args .more) (c .args .value) (c .if-value-lt128 .taken)))
 
 pub returns-then-more-gt0 : need.returns-then-more-gt0
 returns-then-more-gt0 t c =
@@ -25,6 +25,6 @@ returns-then-more-gt0 t c =
     let before = textOf (c .args .text .now) in
     let above = groups (more - 1) (value / 128) in
     c .push-groups .ensures
-    ∙ ap (λ z. z ++ above) (c .push-then-more-gt0 .ensures)
+    ∙ ap (λ z. z ++ above) (c .push-then-more-gt0 .ensures .bytes)
     ∙ append-assoc before ((128 + value % 128) ∷ []) above
     ∙ ap (λ z. before ++ z) (sym (groups-more more value (c .if-more-gt0 .taken) (c .if-value-lt128 .left)))

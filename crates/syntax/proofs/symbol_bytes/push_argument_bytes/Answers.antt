@@ -18,7 +18,7 @@ pub returns-in-Name : need.returns-in-Name
 returns-in-Name c =
     let before = textOf (c .args .text .now) in
     let name = letters (c .in-Name .name .0) in
-    c .push-letters .ensures
+    c .push-letters .ensures .bytes
     ∙ ap (λ z. z ++ name) (c .push-group-in-Name .ensures ∙ ap (λ n. before ++ group n) (c .len .ensures .value))
     ∙ append-assoc before (group (length name)) name
     ∙ ap (λ a. before ++ argumentBytes a) (sym (c .in-Name .is))

@@ -1,6 +1,7 @@
 use mathlib.Core.Path.{sym, ap, _∙_}
 use mathlib.Core.List.{_++_}
 use native.Mathlib.Nat.{sub-zero}
+use borrow.Author.Needs.{needs}
 use lib.ListN.{take}
 use Rattle.syntax.specs.Texts.{textOf}
 use Rattle.syntax.proofs.Letters.{letters-front}
@@ -9,4 +10,7 @@ use Rattle.syntax.proofs.name.Name.push_letters.Needs as need
 pub returns : need.returns
 returns c =
     let bs = c .args .self .0 in
-    c .append .ensures ∙ ap (λ z. textOf (c .args .text .now) ++ z) (ap (λ n. take n bs) (sub-zero (c .len .result) ∙ c .len .ensures .value) ∙ sym (letters-front bs))
+    record {
+      bytes = c .append .ensures .bytes ∙ ap (λ z. textOf (c .args .text .now) ++ z) (ap (λ n. take n bs) (sub-zero (c .len .result) ∙ c .len .ensures .value) ∙ sym (letters-front bs));
+      len = search needs;
+    }

@@ -16,10 +16,14 @@ loop-b-again c =
     let more = c .args .more .now in
     let i = c .loop-b .b-index in
     let before = textOf (c .args .self .now) in
-    c .push .ensures
+    c .push .ensures .bytes
     ∙ ap (λ z. z ++ getD more i 0 ∷ []) (c .loop-b .inv)
     ∙ append-assoc before (take i more) (getD more i 0 ∷ [])
     ∙ ap (λ z. before ++ z) (sym (take-more more i 0 (c .loop-b-test .taken)))
 
 pub returns : need.returns
-returns c = c .loop-b .inv ∙ ap (λ z. textOf (c .args .self .now) ++ z) (take-all _ _ (c .loop-b-test .left))
+returns c =
+    let before = textOf (c .args .self .now) in
+    let more = c .args .more .now in
+    let all = c .loop-b .inv ∙ ap (λ z. before ++ z) (take-all _ _ (c .loop-b-test .left)) in
+    record { bytes = all; len = ap length all ∙ length-append before more }

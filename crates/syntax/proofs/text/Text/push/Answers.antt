@@ -1,7 +1,12 @@
-use native.Mathlib.Omega.{arith}
+use mathlib.Core.Path.{ap, _∙_}
+use lib.ListN.{length}
 use borrow.Author.Needs.{needs}
-use Rattle.std.proofs.shelf.Lists.{take-more-set}
+use Rattle.std.proofs.shelf.Lists.{length-push, take-more-set}
+use Rattle.syntax.specs.Texts.{textOf}
 use Rattle.syntax.proofs.text.Text.push.Needs as need
 
 pub returns : need.returns
-returns c = take-more-set (c .args .self .now .bytes) (c .args .self .now .len) (c .args .b) (search needs)
+returns c =
+    let t = c .args .self .now in
+    let more = take-more-set (t .bytes) (t .len) (c .args .b) (search needs) in
+    record { bytes = more; len = ap length more ∙ length-push (textOf t) (c .args .b) }
