@@ -1,10 +1,10 @@
 // Reads a sheet file from standard input and prints the edit lines that build its tree, or the line
 // of the refusal. What is printed is made by the library; this only reads and writes.
+use notation::edit_lines::MAX_ANSWER;
+use notation::edit_lines::write_edit_lines;
 use std::error::AnyError;
 use std::io::Read;
 use std::io::Write;
-use syntax::edit_lines::MAX_ANSWER;
-use syntax::edit_lines::write_edit_lines;
 
 fn run(rt: &LibcRuntime) -> Result<(), AnyError> {
     let heap = rt.alloc();

@@ -1,17 +1,14 @@
 // Names of variables: one to four letters a to z, kept as four bytes padded with zeros.
 ghost use mathlib.Core.Bool.{true};
 ghost use mathlib.Core.Path.{_≡_};
-ghost use mathlib.Core.List.{_++_};
-ghost use Prim.Native.Nat.{_+_, _≤_};
+ghost use Prim.Native.Nat.{_≤_};
 ghost use lib.ListN.{length};
 ghost use Rattle.std.specs.Options.{Cases as BySome};
 ghost use Rattle.syntax.specs.Names.{blank, isName, letters};
-ghost use Rattle.syntax.specs.Texts.{textOf};
 ghost use Rattle.syntax.specs.declared.name.Name.{Name};
-use crate::text::Text;
 
 // Four bytes that may be a name. A caller can hold any four, so what takes one tests it.
-#[derive(Clone, Copy, Debug, PartialEq, Eq)]
+#[derive(Clone, Copy)]
 pub struct Name(pub [u8; 4]);
 
 impl Name {
@@ -53,15 +50,6 @@ impl Name {
         } else {
             None
         }
-    }
-
-    // Adds the letters to a text.
-    pub(crate) fn push_letters(self, text: &mut Text)
-        requires { ⌜ length (textOf (now text)) + 4 ≤ 64 ⌝ }
-        ensures bytes { λ _. ⌜ textOf (now (text .exit)) ≡ textOf (now (text .entry)) ++ letters (self .0) ⌝ }
-        ensures len { λ _. ⌜ length (textOf (now (text .exit))) ≤ length (textOf (now (text .entry))) + 4 ⌝ }
-    {
-        text.append(&self.0[0..self.len()]);
     }
 }
 

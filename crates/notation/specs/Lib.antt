@@ -1,0 +1,4 @@
+pub mod Texts
+pub mod ArgumentTexts
+pub mod Edits
+pub mod EditAnswers
