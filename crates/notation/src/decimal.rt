@@ -1,10 +1,10 @@
 // Numbers as decimals with no leading zero.
 ghost use mathlib.Core.List.{_++_};
 ghost use mathlib.Core.Path.{_≡_};
-ghost use Prim.Native.Nat.{ℕ, _+_, _<_, _≤_};
+ghost use Prim.Native.Nat.{_+_, _≤_};
 ghost use lib.ListN.{length};
-ghost use Rattle.std.specs.Options.{Cases as BySome};
 ghost use Rattle.std.specs.Written.{decimal};
+ghost use Rattle.notation.specs.Decimals.{Valued};
 ghost use Rattle.notation.specs.Texts.{textOf};
 use crate::text::Text;
 use syntax::argument::MAX_NUMBER;
@@ -14,11 +14,18 @@ const MAX_DIGITS: usize = 6;
 
 // The number, up to the greatest that a node may hold, that has this decimal.
 pub fn read_decimal(text: &[u8]) -> Option<u32>
-    ensures { λ r. ⌜ BySome r ((n : ℕ) → n ≤ 999999 → decimal n ≡ now (text .entry) → ⊥) (λ n. (n ≤ 999999) × (decimal n ≡ now (text .entry))) ⌝ }
+    ensures { λ r. ⌜ Valued (now (text .entry)) r ⌝ }
 {
     if text.len() > MAX_DIGITS {
         return None;
     }
+    read_digits(text)
+}
+
+// The same, from the last digit on.
+fn read_digits(text: &[u8]) -> Option<u32>
+    ensures { λ r. ⌜ Valued (now (text .entry)) r ⌝ }
+{
     let (last, front) = text.split_last()?;
     if !last.is_ascii_digit() {
         return None;
@@ -27,7 +34,7 @@ pub fn read_decimal(text: &[u8]) -> Option<u32>
     if front.is_empty() {
         return Some(digit);
     }
-    let high = read_decimal(front)?;
+    let high = read_digits(front)?;
     if high == 0 || high > MAX_NUMBER / 10 {
         return None;
     }

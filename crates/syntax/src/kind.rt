@@ -65,7 +65,7 @@ impl Kind {
             9 => Some(Kind::Add),
             10 => Some(Kind::Ext),
             12 => Some(Kind::Ifz),
-            _ => None,
+            7 | 11 | 13.. => None,
         }
     }
 

@@ -43,7 +43,7 @@ impl Label {
             1 => Some(Label::Col),
             2 => Some(Label::Ink),
             3 => Some(Label::Lit),
-            _ => None,
+            4.. => None,
         }
     }
 

@@ -7,6 +7,9 @@ ghost use Rattle.std.specs.Options.{Cases as BySome};
 ghost use Rattle.syntax.specs.Names.{blank, isName, letters};
 ghost use Rattle.syntax.specs.declared.name.Name.{Name};
 
+// The most letters that a name has.
+const MAX_LETTERS: usize = 4;
+
 // Four bytes that may be a name. A caller can hold any four, so what takes one tests it.
 #[derive(Clone, Copy)]
 pub struct Name(pub [u8; 4]);
@@ -31,18 +34,20 @@ impl Name {
     pub fn is_valid(self) -> bool
         ensures { λ r. ⌜ r ≡ isName (self .0) ⌝ }
     {
-        let n = self.len();
-        n > 0 && is_blank(&self.0[n..])
+        match self.len() {
+            0 => false,
+            n => is_blank(&self.0[n..]),
+        }
     }
 
     // The name that has these letters, if some name has.
     pub fn from_letters(text: &[u8]) -> Option<Name>
         ensures { λ r. ⌜ BySome r ((n : Name) → isName (n .0) ≡ true → letters (n .0) ≡ now (text .entry) → ⊥) (λ n. (isName (n .0) ≡ true) × (letters (n .0) ≡ now (text .entry))) ⌝ }
     {
-        if text.len() > 4 {
+        if text.len() > MAX_LETTERS {
             return None;
         }
-        let mut bytes = [0; 4];
+        let mut bytes = [0; MAX_LETTERS];
         bytes[0..text.len()].copy_from_slice(text);
         let name = Name(bytes);
         if name.is_valid() && name.len() == text.len() {

@@ -2,12 +2,9 @@ use mathlib.Core.Path.{sym}
 use mathlib.Core.Logic.{inl, inr}
 use native.Mathlib.Omega.{arith}
 use Rattle.std.proofs.shelf.Tests.{eqb-true, eqb-false}
-use Rattle.notation.proofs.Decimals.{none-long, none-empty, none-letter, some-digit, none-front, none-bad, some-more}
-use Rattle.notation.proofs.decimal.+read_decimal.Needs as need
-use Rattle.notation.proofs.decimal.+read_decimal.Needs.{then-high-eq0·by·then-high-eq0, then-high-eq0·by·else-high-eq0·then-high}
-
-pub returns-then-text-gt-MAX-DIGITS : need.returns-then-text-gt-MAX-DIGITS
-returns-then-text-gt-MAX-DIGITS t c = none-long _ (c .if-text-gt-MAX-DIGITS .taken)
+use Rattle.notation.proofs.Decimals.{none-empty, none-letter, some-digit, none-front, none-bad, some-more}
+use Rattle.notation.proofs.decimal.+read_digits.Needs as need
+use Rattle.notation.proofs.decimal.+read_digits.Needs.{then-high-eq0·by·then-high-eq0, then-high-eq0·by·else-high-eq0·then-high}
 
 pub returns-in-Break-last : need.returns-in-Break-last
 returns-in-Break-last t c = rw (c .from-residual .ensures) (none-empty _ (c .in-Break-last .ensures tt .cases))
