@@ -12,7 +12,7 @@ use Rattle.std.specs.declared.result.Result.{Result}
 use Rattle.std.specs.Orderings.{When}
 use Rattle.std.specs.declared.option.Option.{Option}
 use Rattle.std.specs.declared.option.Option.the-variants.{Some, None}
-use Rattle.syntax.specs.ArgumentTexts.{fieldOf}
+use Rattle.notation.specs.ArgumentTexts.{fieldOf}
 use Rattle.syntax.specs.Arguments.{fits}
 use Rattle.syntax.specs.Faults.{numberOf}
 use Rattle.syntax.specs.Kinds.{wordOf}

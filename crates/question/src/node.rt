@@ -6,8 +6,8 @@ ghost use Rattle.syntax.specs.declared.argument.Symbol.{Symbol as ASymbol};
 ghost use Rattle.syntax.specs.declared.fault.Fault.the-variants.{Misfit};
 ghost use Rattle.question.specs.Questions.{Node, written};
 use crate::fields::is_dash;
+use notation::argument_text::parse_argument;
 use syntax::argument::Symbol;
-use syntax::argument_text::parse_argument;
 use syntax::fault::Fault;
 use syntax::kind::Kind;
 

@@ -11,7 +11,7 @@ use Rattle.std.proofs.shelf.Lists.{drop-more, drop-all, take-all, take-at, drop
 use Rattle.std.proofs.shelf.Tests.{lt-ltb}
 use Rattle.std.specs.declared.option.Option.{Option}
 use Rattle.std.specs.declared.option.Option.the-variants.{Some, None}
-use Rattle.syntax.specs.Groups.{group}
+use Rattle.layout.specs.Groups.{group}
 use Rattle.syntax.specs.Names.{isName}
 use Rattle.syntax.specs.declared.name.Name.{Name}
 use Rattle.reading.specs.NameStrings.{key, fours, rising, listing, spelled}

@@ -12,7 +12,7 @@ use Rattle路std.proofs.shelf.Tests.{eq-eqb, ne-eqb, eqb-false, cases-eq, false鈮
 use Rattle路std.specs.declared.option.Option.{Option}
 use Rattle路std.specs.declared.option.Option.the-variants.{Some, None}
 use Rattle路syntax.specs.Arguments.{fits, ofSort}
-use Rattle路syntax.specs.Files.{Rule, WellFormed}
+use Rattle路syntax.specs.Rules.{Rule, WellFormed}
 use Rattle路syntax.specs.Kinds.{arity, sortOf}
 use Rattle路syntax.specs.Trees.{Forest, none, grow, Tree, node, alone, child, count, subtree, under}
 use Rattle路syntax.specs.declared.argument.Argument.{Argument}

@@ -7,7 +7,7 @@ use mathlib.Core.List.{List, [], _∷_}
 use mathlib.Core.Logic.{_⊎_}
 use lib.ListN.{length}
 use Rattle.std.specs.declared.option.Option.the-variants.{Some}
-use Rattle.syntax.specs.Files.{Rule}
+use Rattle.syntax.specs.Rules.{Rule}
 use Rattle.syntax.specs.Trees.{Forest, none, grow, Tree, node, alone, subtree}
 use Rattle.syntax.specs.declared.argument.Argument.the-variants as argument
 use Rattle.syntax.specs.declared.argument.Symbol.{Symbol}

@@ -7,7 +7,7 @@ use lib.ListN.{length, getD}
 use Rattle.std.specs.Joined.{joined}
 use Rattle.std.specs.declared.option.Option.{Option}
 use Rattle.std.specs.declared.option.Option.the-variants.{Some, None}
-use Rattle.syntax.specs.Groups.{group}
+use Rattle.layout.specs.Groups.{group}
 use Rattle.syntax.specs.Names.{isName}
 use Rattle.syntax.specs.declared.name.Name.{Name}
 

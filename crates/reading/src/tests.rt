@@ -47,7 +47,10 @@ fn refusals() -> Result<(), Fail> {
     check_eq(leaf(MAX_METER - 1, Kind::Var, X, 254), 0)?;
     check_eq(leaf(0, Kind::Var, Argument::Nothing, 254), 2)?;
     check_eq(leaf(0, Kind::Hole, X, 254), 2)?;
-    check_eq(leaf(0, Kind::Var, Argument::Name(Name([120, 0, 120, 0])), 254), 2)?;
+    check_eq(
+        leaf(0, Kind::Var, Argument::Name(Name([120, 0, 120, 0])), 254),
+        2,
+    )?;
     check_eq(leaf(0, Kind::Num, Argument::Number(1_000_000), 254), 2)?;
     check_eq(one(MAX_METER, Kind::Lam, Argument::Nothing, b"\x05", 0), 2)?;
     check_eq(leaf(MAX_METER, Kind::Var, X, 254), 9)?;

@@ -1,9 +1,3 @@
 pub mod Spelled
 pub mod Letters
 pub mod Codes
-pub mod Groups
-pub mod SymbolBytes
-pub mod Prefixes
-pub mod Forests
-pub mod Scans
-pub mod Decimals

@@ -3,11 +3,5 @@ pub mod Labels
 pub mod Kinds
 pub mod Names
 pub mod Arguments
-pub mod Readers
-pub mod Groups
-pub mod Texts
-pub mod SymbolBytes
 pub mod Trees
-pub mod Files
-pub mod Scans
-pub mod ArgumentTexts
+pub mod Rules

@@ -6,20 +6,14 @@ ghost use Rattle.syntax.specs.Arguments.{fits, ofSort, sortIs};
 ghost use Rattle.syntax.specs.declared.fault.Fault.the-variants.{Misfit};
 use crate::fault::Fault;
 use crate::kind::Kind;
-use crate::kind::KindDebug;
-use crate::kind::KindPartialEq;
 use crate::kind::Sort;
 use crate::label::Label;
-use crate::label::LabelDebug;
-use crate::label::LabelPartialEq;
 use crate::name::Name;
-use crate::name::NameDebug;
-use crate::name::NamePartialEq;
 
 // The greatest number that a node may hold.
 pub const MAX_NUMBER: u32 = 999_999;
 
-#[derive(Clone, Copy, Debug, PartialEq, Eq)]
+#[derive(Clone, Copy)]
 pub enum Argument {
     Nothing,
     Number(u32),
@@ -28,7 +22,7 @@ pub enum Argument {
 }
 
 // What stands at a node: its kind, and the argument beside it.
-#[derive(Clone, Copy, Debug, PartialEq, Eq)]
+#[derive(Clone, Copy)]
 pub struct Symbol {
     pub kind: Kind,
     pub argument: Argument,

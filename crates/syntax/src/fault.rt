@@ -1,5 +1,6 @@
 // The refusals. Every call that turns something down says why by one of these.
 ghost use mathlib.Core.Path.{_≡_};
+ghost use Prim.Native.Nat.{_≤_};
 ghost use Rattle.syntax.specs.Faults.{numberOf};
 
 #[derive(Clone, Copy, Debug, PartialEq, Eq)]
@@ -33,7 +34,8 @@ pub enum Fault {
 impl Fault {
     // The number under which the refusal is shown.
     pub fn number(self) -> u8
-        ensures { λ r. ⌜ r ≡ numberOf self ⌝ }
+        ensures value { λ r. ⌜ r ≡ numberOf self ⌝ }
+        ensures bound { λ r. ⌜ r ≤ 12 ⌝ }
     {
         match self {
             Fault::BadLine => 1,

@@ -5,7 +5,7 @@ ghost use Rattle.std.specs.Options.{Cases as BySome};
 ghost use Rattle.syntax.specs.Kinds.{arity, codeOf, sortOf, wordOf};
 ghost use Rattle.syntax.specs.declared.kind.Kind.{Kind};
 
-#[derive(Clone, Copy, Debug, PartialEq, Eq)]
+#[derive(Clone, Copy)]
 pub enum Kind {
     Hole,
     Num,
@@ -21,7 +21,7 @@ pub enum Kind {
 }
 
 // What a kind takes as its argument.
-#[derive(Clone, Copy, Debug, PartialEq, Eq)]
+#[derive(Clone, Copy)]
 pub enum Sort {
     Nothing,
     Number,
@@ -65,7 +65,7 @@ impl Kind {
             9 => Some(Kind::Add),
             10 => Some(Kind::Ext),
             12 => Some(Kind::Ifz),
-            _ => None,
+            7 | 11 | 13.. => None,
         }
     }
 

@@ -4,7 +4,7 @@ ghost use Rattle.std.specs.Options.{Cases as BySome};
 ghost use Rattle.syntax.specs.Labels.{labelCode, labelWord};
 ghost use Rattle.syntax.specs.declared.label.Label.{Label};
 
-#[derive(Clone, Copy, Debug, PartialEq, Eq)]
+#[derive(Clone, Copy)]
 pub enum Label {
     Row,
     Col,
@@ -43,7 +43,7 @@ impl Label {
             1 => Some(Label::Col),
             2 => Some(Label::Ink),
             3 => Some(Label::Lit),
-            _ => None,
+            4.. => None,
         }
     }
 

@@ -1,17 +1,17 @@
 // Names of variables: one to four letters a to z, kept as four bytes padded with zeros.
 ghost use mathlib.Core.Bool.{true};
 ghost use mathlib.Core.Path.{_≡_};
-ghost use mathlib.Core.List.{_++_};
-ghost use Prim.Native.Nat.{_+_, _≤_};
+ghost use Prim.Native.Nat.{_≤_};
 ghost use lib.ListN.{length};
 ghost use Rattle.std.specs.Options.{Cases as BySome};
 ghost use Rattle.syntax.specs.Names.{blank, isName, letters};
-ghost use Rattle.syntax.specs.Texts.{textOf};
 ghost use Rattle.syntax.specs.declared.name.Name.{Name};
-use crate::text::Text;
+
+// The most letters that a name has.
+const MAX_LETTERS: usize = 4;
 
 // Four bytes that may be a name. A caller can hold any four, so what takes one tests it.
-#[derive(Clone, Copy, Debug, PartialEq, Eq)]
+#[derive(Clone, Copy)]
 pub struct Name(pub [u8; 4]);
 
 impl Name {
@@ -34,18 +34,20 @@ impl Name {
     pub fn is_valid(self) -> bool
         ensures { λ r. ⌜ r ≡ isName (self .0) ⌝ }
     {
-        let n = self.len();
-        n > 0 && is_blank(&self.0[n..])
+        match self.len() {
+            0 => false,
+            n => is_blank(&self.0[n..]),
+        }
     }
 
     // The name that has these letters, if some name has.
     pub fn from_letters(text: &[u8]) -> Option<Name>
         ensures { λ r. ⌜ BySome r ((n : Name) → isName (n .0) ≡ true → letters (n .0) ≡ now (text .entry) → ⊥) (λ n. (isName (n .0) ≡ true) × (letters (n .0) ≡ now (text .entry))) ⌝ }
     {
-        if text.len() > 4 {
+        if text.len() > MAX_LETTERS {
             return None;
         }
-        let mut bytes = [0; 4];
+        let mut bytes = [0; MAX_LETTERS];
         bytes[0..text.len()].copy_from_slice(text);
         let name = Name(bytes);
         if name.is_valid() && name.len() == text.len() {
@@ -53,14 +55,6 @@ impl Name {
         } else {
             None
         }
-    }
-
-    // Adds the letters to a text.
-    pub(crate) fn push_letters(self, text: &mut Text)
-        requires { ⌜ length (textOf (now text)) + 4 ≤ 64 ⌝ }
-        ensures { λ _. ⌜ textOf (now (text .exit)) ≡ textOf (now (text .entry)) ++ letters (self .0) ⌝ }
-    {
-        text.append(&self.0[0..self.len()]);
     }
 }
 

@@ -7,8 +7,8 @@ use Rattle.syntax.proofs.Letters.{named, padded-copy, padded-back, padded-name
 use Rattle.syntax.proofs.name.Name.from_letters.Needs as need
 use Rattle.syntax.proofs.name.Name.from_letters.Needs.{else-is-valid·by·then-is-valid·else-len-text, else-is-valid·by·else-is-valid}
 
-pub returns-then-text-gt4 : need.returns-then-text-gt4
-returns-then-text-gt4 c n valid is = omega (arith, ap length is, named (n .0) valid .few)
+pub returns-then-text-gt-MAX-LETTERS : need.returns-then-text-gt-MAX-LETTERS
+returns-then-text-gt-MAX-LETTERS c n valid is = omega (arith, ap length is, named (n .0) valid .few)
 
 pub returns-then-len-text : need.returns-then-len-text
 returns-then-len-text c = (

@@ -8,8 +8,8 @@ use Rattle.syntax.specs.Names.{blank, letters}
 use Rattle.syntax.proofs.Letters.{some-named}
 use Rattle.syntax.proofs.name.Name.is_valid.Needs as need
 
-pub returns-then-n-gt0 : need.returns-then-n-gt0
-returns-then-n-gt0 c =
+pub returns-in-rest : need.returns-in-rest
+returns-in-rest c =
     let bs = c .args .self .0 in
     let some : 0 < length (letters bs) = omega arith in
-    c .is-blank .ensures ∙ ap blank (take-rest bs (c .len-n .result)) ∙ ap (λ n. blank (drop n bs)) (c .len-n .ensures .value) ∙ some-named bs (search needs) some
+    c .is-blank .ensures ∙ ap blank (take-rest bs (c .len .result)) ∙ ap (λ n. blank (drop n bs)) (c .len .ensures .value) ∙ some-named bs (search needs) some

@@ -1,0 +1,5 @@
+pub mod Readers
+pub mod Groups
+pub mod SymbolBytes
+pub mod Files
+pub mod Scans

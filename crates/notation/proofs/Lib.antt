@@ -1,0 +1,4 @@
+pub mod Decimals
+pub mod Edits
+pub mod TextLengths
+pub mod EditLines

@@ -1,0 +1,5 @@
+pub mod Decimals
+pub mod Texts
+pub mod ArgumentTexts
+pub mod Edits
+pub mod EditAnswers

@@ -1,5 +1,0 @@
-use lib.ListN.{length}
-use Rattle.syntax.proofs.decimal.+read_decimal.Given as given
-
-abbrev pub μ-read-decimal : given.MeasureT-read-decimal
-μ-read-decimal l = length (l .text .now)

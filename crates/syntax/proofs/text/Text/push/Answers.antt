@@ -1,7 +1,0 @@
-use native.Mathlib.Omega.{arith}
-use borrow.Author.Needs.{needs}
-use Rattle.std.proofs.shelf.Lists.{take-more-set}
-use Rattle.syntax.proofs.text.Text.push.Needs as need
-
-pub returns : need.returns
-returns c = take-more-set (c .args .self .now .bytes) (c .args .self .now .len) (c .args .b) (search needs)
