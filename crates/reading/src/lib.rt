@@ -10,8 +10,6 @@ use syntax::kind::Kind;
 
 mod name_set;
 pub mod names;
-#[cfg(test)]
-mod tests;
 pub mod twice;
 
 // The number at which a meter is full.

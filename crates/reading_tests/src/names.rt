@@ -1,10 +1,10 @@
 // Questions to the names reading: every refusal and which comes first, lawful and unlawful strings,
 // and the strings that were worked out by hand.
 ghost use Rattle.reading.specs.WorkedNames.{Works};
-use crate::MAX_METER;
-use crate::Reading;
-use crate::names::Names;
-use crate::names::NamesReading;
+use reading::MAX_METER;
+use reading::Reading;
+use reading::names::Names;
+use reading::names::NamesReading;
 use std::test::*;
 use syntax::argument::Argument;
 use syntax::kind::Kind;
