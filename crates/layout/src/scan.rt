@@ -8,7 +8,7 @@ ghost use Rattle.layout.specs.Readers.{ReadsBack};
 ghost use Rattle.layout.specs.SymbolBytes.{symbolBytes};
 ghost use Rattle.syntax.specs.Arguments.{fits};
 ghost use mathlib.Core.Bool.{true};
-ghost use Rattle.layout.specs.Scans.{Measures, NoTrees, OneRule, Scanned};
+ghost use Rattle.layout.specs.Scans.{HeightIsDepth, Measures, NoTrees, OneRule, Scanned};
 use crate::symbol_bytes::read_symbol;
 use syntax::fault::Fault;
 
@@ -35,6 +35,7 @@ struct Measured<'a> {
 pub fn scan(bytes: &[u8], capacity: usize) -> Result<Figures, Fault>
     ensures answer { λ r. ⌜ Scanned (now (bytes .entry)) capacity r ⌝ }
     ensures one { λ _. ⌜ OneRule ⌝ }
+    ensures depth { λ _. ⌜ HeightIsDepth ⌝ }
     ensures numbers { λ _. ⌜ ReadsBack Group group ⌝ }
     ensures nodes { λ _. ⌜ ReadsBack (λ s. fits s ≡ true) symbolBytes ⌝ }
 {
