@@ -1,0 +1,4 @@
+pub mod FieldLists
+pub mod HexTexts
+pub mod StringParts
+pub mod Telling
