@@ -10,7 +10,7 @@ ghost use Rattle.question.specs.Hex.{digit as digitOf, hex, isDigit, isHex, un
 fn is_digit(c: u8) -> bool
     ensures { λ r. ⌜ r ≡ isDigit c ⌝ }
 {
-    (48 <= c && c <= 57) || (97 <= c && c <= 102)
+    (b'0' <= c && c <= b'9') || (b'a' <= c && c <= b'f')
 }
 
 // Whether a text is whole pairs of digits.
@@ -35,7 +35,7 @@ fn worth(c: u8) -> u8
     ensures value { λ r. ⌜ r ≡ worthOf c ⌝ }
     ensures bound { λ r. ⌜ r < 16 ⌝ }
 {
-    if c < 58 { c - 48 } else { c - 87 }
+    if c <= b'9' { c - b'0' } else { c - b'a' + 10 }
 }
 
 // Writes the bytes that a child's string stands for at the front of a buffer.
@@ -60,7 +60,7 @@ fn digit(n: u8) -> u8
     requires { ⌜ n < 16 ⌝ }
     ensures { λ r. ⌜ r ≡ digitOf n ⌝ }
 {
-    if n < 10 { 48 + n } else { 87 + n }
+    if n < 10 { b'0' + n } else { b'a' + n - 10 }
 }
 
 // Writes the digits of bytes at the front of a buffer.

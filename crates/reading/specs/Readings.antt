@@ -65,6 +65,10 @@ refusal m meter s parts room =
     (Some MeterFull))
     (Some Misfit)
 
+-- a question is let through where there is no reason to refuse it
+abbrev pub Weighed : Option Fault → Result (Unit {0}) Fault → Type 0
+Weighed why r = Cases r (λ _. why ≡ None) (λ fault. why ≡ Some fault)
+
 -- what the slices of a list hold
 abbrev pub texts : List (RefT (List ℕ)) → List (List ℕ)
 texts slices = map (λ slice. slice .now) slices

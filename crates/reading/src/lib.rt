@@ -2,9 +2,7 @@
 // node's children.
 ghost use mathlib.Core.Path.{_≡_};
 ghost use Prim.Native.Nat.{ℕ, _≤_};
-ghost use Rattle.std.specs.Results.{Cases};
-ghost use Rattle.std.specs.declared.option.Option.the-variants.{Some, None};
-ghost use Rattle.reading.specs.Readings.{Asked, Meaning, Sound, meterEnd, refusal, texts};
+ghost use Rattle.reading.specs.Readings.{Asked, Meaning, Sound, Weighed, meterEnd, refusal, texts};
 use syntax::argument::Argument;
 use syntax::argument::Symbol;
 use syntax::fault::Fault;
@@ -56,7 +54,7 @@ pub trait Reading {
     // Refuses a question, put with a buffer of so many bytes, for the first reason that holds. It is
     // the same for all readings, so it stands here.
     fn admit(&self, symbol: Symbol, parts: &[&[u8]], room: usize) -> Result<(), Fault>
-        ensures { λ r. ⌜ Cases r (λ _. refusal (means (now (self .entry))) (metered (now (self .entry))) symbol (texts (now (parts .entry))) room ≡ None) (λ fault. refusal (means (now (self .entry))) (metered (now (self .entry))) symbol (texts (now (parts .entry))) room ≡ Some fault) ⌝ }
+        ensures { λ r. ⌜ Weighed (refusal (means (now (self .entry))) (metered (now (self .entry))) symbol (texts (now (parts .entry))) room) r ⌝ }
     {
         symbol.fit()?;
         if self.meter() >= MAX_METER {

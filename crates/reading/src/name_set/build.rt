@@ -9,6 +9,8 @@ ghost use Rattle.std.specs.declared.option.Option.the-variants.{Some};
 ghost use Rattle.reading.specs.NameSets.{namesOf};
 ghost use Rattle.reading.specs.NameStrings.{allowed, fours, key as rank, rising, spelled};
 ghost use Rattle.reading.specs.NamesRule.{add as added, insert as inserted, isBound, join as joining, merge as merging};
+use crate::name_set::LISTED;
+use crate::name_set::MANY;
 use crate::name_set::MOST_NAMES;
 use crate::name_set::NameSet;
 use syntax::name::Name;
@@ -97,7 +99,7 @@ impl NameSet {
         let Some((first, rest)) = text.split_first() else {
             return;
         };
-        if *first == 4 {
+        if *first == MANY {
             self.many = true;
         } else if let Some((_, bytes)) = rest.split_first() {
             self.join(bound, bytes);
@@ -111,11 +113,11 @@ impl NameSet {
         ensures wrote { λ r. ⌜ now (out .exit) ≡ spelled (namesOf (now (self .entry))) ++ drop r (now (out .entry)) ⌝ }
     {
         if self.many {
-            out[0] = 4;
+            out[0] = MANY;
             return 1;
         }
         let names = &self.names[0..self.len];
-        out[0] = 3;
+        out[0] = LISTED;
         out[1] = names.len() as u8;
         for i in 0..names.len() {
             put(out, 2 + 4 * i, names[i]);
@@ -165,11 +167,12 @@ pub(crate) fn is_allowed(text: &[u8]) -> bool
     let Some((first, rest)) = text.split_first() else {
         return false;
     };
-    if *first == 4 {
+    if *first == MANY {
         return rest.is_empty();
     }
     let Some((count, bytes)) = rest.split_first() else {
         return false;
     };
-    *first == 3 && *count <= 63 && bytes.len() == 4 * *count as usize && rises(0, bytes)
+    let count = *count as usize;
+    *first == LISTED && count <= MOST_NAMES && bytes.len() == 4 * count && rises(0, bytes)
 }
