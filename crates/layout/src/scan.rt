@@ -1,14 +1,14 @@
 // Whether bytes are a sheet file, and the size of the tree: one pass, in fixed memory. Recursion
 // goes down only as far as nodes may lie; what lies deeper is passed over by a loop.
+ghost use mathlib.Core.Bool.{true};
 ghost use mathlib.Core.Path.{_≡_};
 ghost use Prim.Native.Nat.{_<_, _≤_};
 ghost use Rattle.std.specs.Options.{Cases as BySome};
 ghost use Rattle.layout.specs.Groups.{Group, group};
 ghost use Rattle.layout.specs.Readers.{ReadsBack};
+ghost use Rattle.layout.specs.Scans.{HeightIsDepth, Measures, NoTrees, OneRule, Scanned};
 ghost use Rattle.layout.specs.SymbolBytes.{symbolBytes};
 ghost use Rattle.syntax.specs.Arguments.{fits};
-ghost use mathlib.Core.Bool.{true};
-ghost use Rattle.layout.specs.Scans.{HeightIsDepth, Measures, NoTrees, OneRule, Scanned};
 use crate::symbol_bytes::read_symbol;
 use syntax::fault::Fault;
 
