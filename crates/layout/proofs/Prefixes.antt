@@ -10,7 +10,9 @@ use lib.ListN.{length, take, drop, replicate}
 use Rattle.std.proofs.shelf.Lists.{take-at, drop-at}
 use Rattle.std.proofs.shelf.Tests.{false≢true, leb-true}
 use Rattle.syntax.specs.Arguments.{fits, ofSort}
-use Rattle.layout.specs.Groups.{bound, group}
+use Rattle.std.specs.declared.option.Option.the-variants.{Some, None}
+use Rattle.layout.specs.Groups.{Group, bound, group}
+use Rattle.layout.specs.Readers.{ReadsBack}
 use Rattle.syntax.specs.Kinds.{codeOf, sortOf, arity}
 use Rattle.syntax.specs.Labels.{labelCode}
 use Rattle.syntax.specs.Names.{isName, letters}
@@ -28,32 +30,32 @@ use Rattle.layout.proofs.Groups.{groups-prefix}
 use Rattle.syntax.proofs.Letters.{named}
 
 -- An argument of a sort is made in one way.
-nothing : (a : Argument) → ofSort sort.Nothing a ≡ true → a ≡ argument.Nothing
+pub nothing : (a : Argument) → ofSort sort.Nothing a ≡ true → a ≡ argument.Nothing
 nothing argument.Nothing fit = refl
 nothing (argument.Number n) fit = absurd (false≢true fit)
 nothing (argument.Name n) fit = absurd (false≢true fit)
 nothing (argument.Label l) fit = absurd (false≢true fit)
 
-number : (a : Argument) → ofSort sort.Number a ≡ true → (n : ℕ) × (a ≡ argument.Number n) × (n ≤ 999999)
+pub number : (a : Argument) → ofSort sort.Number a ≡ true → (n : ℕ) × (a ≡ argument.Number n) × (n ≤ 999999)
 number argument.Nothing fit = absurd (false≢true fit)
 number (argument.Number n) fit = (n, refl, leb-true n 999999 fit)
 number (argument.Name n) fit = absurd (false≢true fit)
 number (argument.Label l) fit = absurd (false≢true fit)
 
-name : (a : Argument) → ofSort sort.Name a ≡ true → (n : Name) × (a ≡ argument.Name n) × (isName (n .0) ≡ true)
+pub name : (a : Argument) → ofSort sort.Name a ≡ true → (n : Name) × (a ≡ argument.Name n) × (isName (n .0) ≡ true)
 name argument.Nothing fit = absurd (false≢true fit)
 name (argument.Number n) fit = absurd (false≢true fit)
 name (argument.Name n) fit = (n, refl, fit)
 name (argument.Label l) fit = absurd (false≢true fit)
 
-label : (a : Argument) → ofSort sort.Label a ≡ true → (l : Label) × (a ≡ argument.Label l)
+pub label : (a : Argument) → ofSort sort.Label a ≡ true → (l : Label) × (a ≡ argument.Label l)
 label argument.Nothing fit = absurd (false≢true fit)
 label (argument.Number n) fit = absurd (false≢true fit)
 label (argument.Name n) fit = absurd (false≢true fit)
 label (argument.Label l) fit = (l, refl)
 
 -- a name is its letters, padded
-same-name : (n m : Name) → isName (n .0) ≡ true → isName (m .0) ≡ true → letters (n .0) ≡ letters (m .0) → n ≡ m
+pub same-name : (n m : Name) → isName (n .0) ≡ true → isName (m .0) ≡ true → letters (n .0) ≡ letters (m .0) → n ≡ m
 same-name n m vn vm e =
     let same : n .0 ≡ m .0 = named (n .0) vn .made ∙ ap (λ x. x ++ replicate (4 - length x) 0) e ∙ sym (named (m .0) vm .made) in
     λ i. record { 0 = same i }
@@ -91,3 +93,15 @@ symbol-prefix s t x y fs ft e =
     let kind = same-from-code (s .kind) (t .kind) (h .0) in
     let g = argument-prefix (sortOf (t .kind)) (s .argument) (t .argument) x y (subst (λ k. ofSort (sortOf k) (s .argument) ≡ true) kind fs) ft (h .1) in
     (λ i. record { kind = kind i; argument = g .0 i }, g .1)
+
+-- where no spelling begins another, what is spelled is read back
+reads-back : {A : Type 0} (Good : A → Type 0) (spell : A → List ℕ)
+    → ((a b : A) (x y : List ℕ) → Good a → Good b → spell a ++ x ≡ spell b ++ y → (a ≡ b) × (x ≡ y)) → ReadsBack Good spell
+reads-back Good spell apart a rest None good h = h a rest good refl
+reads-back Good spell apart a rest (Some p) good (fit, is) = let e = apart (p .0) a (p .1 .now) rest fit good (sym is) in e
+
+pub groups-back : ReadsBack Group group
+groups-back = reads-back Group group (groups-prefix 2)
+
+pub symbols-back : ReadsBack (λ s. fits s ≡ true) symbolBytes
+symbols-back = reads-back (λ s. fits s ≡ true) symbolBytes symbol-prefix

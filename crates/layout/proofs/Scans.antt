@@ -10,11 +10,12 @@ use Rattle.syntax.specs.Arguments.{fits}
 use Rattle.layout.specs.Files.{forestBytes, fileBytes}
 use Rattle.syntax.specs.Rules.{WellFormed, Rule}
 use Rattle.syntax.specs.Kinds.{arity}
-use Rattle.layout.specs.Scans.{Begins, FileOf, Measures, NoTrees, OneRule}
+use Rattle.layout.specs.Scans.{Begins, FileOf, HeightIsDepth, Measures, NoTrees, OneRule}
 use Rattle.layout.specs.SymbolBytes.{symbolBytes}
 use Rattle.syntax.specs.Trees.{Forest, none, grow, Tree, node, alone, join, count, nodes, levels, size, height}
 use Rattle.syntax.specs.declared.argument.Symbol.{Symbol}
 use Rattle.layout.specs.declared.scan.Measured.{Measured}
+use Rattle.syntax.proofs.Trees.{subtree-within, deepest}
 use Rattle.layout.proofs.Forests.{spells-grow, forest-prefix, nodes-within, count-within, join-bytes, join-well, join-count, join-nodes, split, split-well, symbol-some}
 use Rattle.layout.proofs.Prefixes.{symbol-prefix}
 use Rattle.layout.proofs.SymbolBytes.{NoSymbol}
@@ -201,3 +202,6 @@ module _ (bytes rest : List ℕ) (s : Symbol) (fit : fits s ≡ true) (front : b
         nodes-are = omega (arith, many, b .nodes-are, d .nodes-are);
         levels-are = omega (arith, high, b .levels-are, d .levels-are);
       }
+
+pub height-depth : HeightIsDepth
+height-depth t = (λ path u is. omega (arith, subtree-within path t u is .0), deepest (height t) t refl)

@@ -3,13 +3,15 @@ use Prim.Native.Nat.{ℕ, _+_, _<_, _≤_, min}
 use mathlib.Core.Path.{_≡_}
 use mathlib.Core.Logic.{_⊎_}
 use mathlib.Core.List.{List, _++_}
+use lib.ListN.{length}
 use Rattle.std.specs.Options as options
 use Rattle.std.specs.Results as results
 use Rattle.std.specs.declared.option.Option.{Option}
+use Rattle.std.specs.declared.option.Option.the-variants.{Some}
 use Rattle.std.specs.declared.result.Result.{Result}
 use Rattle.layout.specs.Files.{fileBytes, forestBytes}
 use Rattle.syntax.specs.Rules.{Rule, WellFormed}
-use Rattle.syntax.specs.Trees.{Forest, Tree, count, height, levels, nodes, size}
+use Rattle.syntax.specs.Trees.{Forest, Tree, count, height, levels, nodes, size, subtree}
 use Rattle.syntax.specs.declared.argument.Symbol.{Symbol}
 use Rattle.syntax.specs.declared.fault.Fault.{Fault}
 use Rattle.syntax.specs.declared.fault.Fault.the-variants.{BadLayout, TooDeep, TooMany}
@@ -43,6 +45,13 @@ Scanned bytes capacity r = results.Cases r (Granted bytes capacity) (Refused byt
 -- a file is the file of one rule only
 abbrev pub OneRule : Type 0
 OneRule = (t u : Tree Symbol) → Rule t → Rule u → fileBytes t ≡ fileBytes u → t ≡ u
+
+-- a rule's height is the length of its longest path
+abbrev pub HeightIsDepth : Type 0
+HeightIsDepth =
+    (t : Tree Symbol)
+    → ((path : List ℕ) (u : Tree Symbol) → subtree path t ≡ Some u → length path ≤ height t)
+    × ((path : List ℕ) × (u : Tree Symbol) × (subtree path t ≡ Some u) × (length path ≡ height t))
 
 -- The bytes begin with k trees, before a rest.
 pub record Begins (bytes : List ℕ) (k : ℕ) (f : Forest Symbol) (rest : List ℕ) : Type 0 where

@@ -1,9 +1,14 @@
 // Whether bytes are a sheet file, and the size of the tree: one pass, in fixed memory. Recursion
 // goes down only as far as nodes may lie; what lies deeper is passed over by a loop.
+ghost use mathlib.Core.Bool.{true};
 ghost use mathlib.Core.Path.{_≡_};
 ghost use Prim.Native.Nat.{_<_, _≤_};
 ghost use Rattle.std.specs.Options.{Cases as BySome};
-ghost use Rattle.layout.specs.Scans.{Measures, NoTrees, OneRule, Scanned};
+ghost use Rattle.layout.specs.Groups.{Group, group};
+ghost use Rattle.layout.specs.Readers.{ReadsBack};
+ghost use Rattle.layout.specs.Scans.{HeightIsDepth, Measures, NoTrees, OneRule, Scanned};
+ghost use Rattle.layout.specs.SymbolBytes.{symbolBytes};
+ghost use Rattle.syntax.specs.Arguments.{fits};
 use crate::symbol_bytes::read_symbol;
 use syntax::fault::Fault;
 
@@ -30,6 +35,9 @@ struct Measured<'a> {
 pub fn scan(bytes: &[u8], capacity: usize) -> Result<Figures, Fault>
     ensures answer { λ r. ⌜ Scanned (now (bytes .entry)) capacity r ⌝ }
     ensures one { λ _. ⌜ OneRule ⌝ }
+    ensures depth { λ _. ⌜ HeightIsDepth ⌝ }
+    ensures numbers { λ _. ⌜ ReadsBack Group group ⌝ }
+    ensures nodes { λ _. ⌜ ReadsBack (λ s. fits s ≡ true) symbolBytes ⌝ }
 {
     let Some(found) = measure(bytes, 1, MAX_DEPTH + 1) else {
         return Err(Fault::BadLayout);

@@ -1,19 +1,16 @@
 // Arguments as text: the decimal of a number, the letters of a name, the word of a label.
 ghost use mathlib.Core.Bool.{true};
-ghost use mathlib.Core.List.{List, _++_};
+ghost use mathlib.Core.List.{_++_};
 ghost use mathlib.Core.Path.{_≡_};
 ghost use Prim.Native.Nat.{_+_, _≤_};
-ghost use denote.Ref.{RefT};
 ghost use lib.ListN.{length};
 ghost use Rattle.std.specs.Options.{Cases as BySome, mapped};
-ghost use Rattle.std.specs.Results.{Cases};
 ghost use Rattle.std.specs.declared.option.Option.the-variants.{Some};
-ghost use Rattle.notation.specs.ArgumentTexts.{argumentText, fieldOf};
+ghost use Rattle.notation.specs.ArgumentTexts.{Parsed, argumentText, fieldOf};
+ghost use Rattle.notation.specs.Texts.{WroteIf, textOf};
 ghost use Rattle.syntax.specs.Arguments.{ofSort, sound};
 ghost use Rattle.syntax.specs.Names.{letters};
-ghost use Rattle.notation.specs.Texts.{WroteIf, textOf};
 ghost use Rattle.syntax.specs.declared.argument.Argument.{Argument};
-ghost use Rattle.syntax.specs.declared.fault.Fault.the-variants.{Misfit};
 use crate::decimal::push_decimal;
 use crate::decimal::read_decimal;
 use crate::text::Text;
@@ -37,7 +34,7 @@ pub fn write_argument(argument: Argument, out: &mut [u8]) -> Result<usize, Fault
 
 // The argument of a sort that a field of a line holds, where the field may be missing.
 pub fn parse_argument(sort: Sort, field: Option<&[u8]>) -> Result<Argument, Fault>
-    ensures { λ r. ⌜ Cases r (λ a. (ofSort sort a ≡ true) × (fieldOf a ≡ mapped (λ x. x .now) (field .entry))) (λ e. (e ≡ Misfit) × ((a : Argument) → ofSort sort a ≡ true → fieldOf a ≡ mapped (λ x. x .now) (field .entry) → ⊥)) ⌝ }
+    ensures { λ r. ⌜ Parsed sort (mapped (λ x. x .now) (field .entry)) r ⌝ }
 {
     match field {
         None => match sort {

@@ -4,11 +4,11 @@ ghost use mathlib.Core.List.{_++_};
 ghost use mathlib.Core.Path.{_≡_};
 ghost use Prim.Native.Nat.{_+_, _≤_};
 ghost use lib.ListN.{length};
-ghost use Rattle.notation.specs.ArgumentTexts.{fieldOf};
-ghost use Rattle.syntax.specs.Arguments.{fits, sound};
+ghost use Rattle.notation.specs.ArgumentTexts.{ParsesBack, fieldOf};
 ghost use Rattle.notation.specs.EditAnswers.{Adds, AddsLines, Answered, WritesFile};
 ghost use Rattle.notation.specs.Edits.{Rebuilds, lineAt, noLine, spaced};
 ghost use Rattle.notation.specs.Texts.{textOf};
+ghost use Rattle.syntax.specs.Arguments.{fits, sound};
 use crate::argument_text::push_argument;
 use crate::decimal::push_decimal;
 use crate::text::Text;
@@ -151,6 +151,7 @@ fn write_tree(file: &[u8], out: &mut [u8]) -> Option<usize>
 pub fn write_edit_lines(file: &[u8], out: &mut [u8]) -> Result<usize, Fault>
     ensures answer { λ r. ⌜ Answered (now (file .entry)) (now (out .entry)) (now (out .exit)) r ⌝ }
     ensures meaning { λ _. ⌜ Rebuilds ⌝ }
+    ensures fields { λ _. ⌜ ParsesBack ⌝ }
 {
     if out.len() < MAX_ANSWER {
         return Err(Fault::ShortBuffer);

@@ -1,3 +1,4 @@
 pub mod Spelled
 pub mod Letters
 pub mod Codes
+pub mod Trees

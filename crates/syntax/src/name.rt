@@ -47,7 +47,7 @@ impl Name {
         if text.len() > MAX_LETTERS {
             return None;
         }
-        let mut bytes = [0; MAX_LETTERS];
+        let mut bytes = [0; 4];
         bytes[0..text.len()].copy_from_slice(text);
         let name = Name(bytes);
         if name.is_valid() && name.len() == text.len() {

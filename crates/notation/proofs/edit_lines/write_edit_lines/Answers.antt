@@ -6,11 +6,12 @@ use Rattle.std.proofs.shelf.Tests.{le-leb, lt-leb}
 use Rattle.notation.specs.Texts.{textOf}
 use Rattle.notation.proofs.EditLines.{wrote-fits, written-some}
 use Rattle.notation.proofs.Edits.{rebuilds}
+use Rattle.notation.proofs.ParseBack.{parses-back}
 use Rattle.notation.proofs.edit_lines.write_edit_lines.Needs as need
 
 pub returns-then-out-lt-MAX-ANSWER : need.returns-then-out-lt-MAX-ANSWER
 returns-then-out-lt-MAX-ANSWER c =
-    record { answer = rw (lt-leb 57344 (length (c .args .out .now)) (c .if-out-lt-MAX-ANSWER .taken)) (refl, refl); meaning = rebuilds }
+    record { answer = rw (lt-leb 57344 (length (c .args .out .now)) (c .if-out-lt-MAX-ANSWER .taken)) (refl, refl); meaning = rebuilds; fields = parses-back }
 
 pub returns-in-Err : need.returns-in-Err
 returns-in-Err c =
@@ -20,6 +21,7 @@ returns-in-Err c =
       answer = rw (le-leb 57344 (length (c .args .out .now)) (c .if-out-lt-MAX-ANSWER .left))
           (textOf t, inr (c .in-Err .fault, c .in-Err .ensures tt .answer, c .no-line .ensures), told, is);
       meaning = rebuilds;
+      fields = parses-back;
     }
 
 pub returns-in-Ok : need.returns-in-Ok
@@ -30,4 +32,5 @@ returns-in-Ok c =
       answer = rw (le-leb 57344 (length (c .args .out .now)) (c .if-out-lt-MAX-ANSWER .left))
           (_, inl (g .tree, g .file, g .shallow, g .small, refl), c .ok-or .ensures .value ∙ told, is);
       meaning = rebuilds;
+      fields = parses-back;
     }
