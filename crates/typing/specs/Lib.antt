@@ -1,0 +1,11 @@
+pub mod Heads
+pub mod Terms
+pub mod Forms
+pub mod Rules
+pub mod Cells
+pub mod Solve
+pub mod Constraints
+pub mod Strings
+pub mod Parsing
+pub mod Typings
+pub mod Worked

@@ -1,0 +1,3 @@
+// The typing reading: types, forms, and the most general typing of a rule.
+pub mod head;
+pub mod theorems;
