@@ -1,1 +1,4 @@
 pub mod Worked
+pub mod Finding
+pub mod Merging
+pub mod Occurs

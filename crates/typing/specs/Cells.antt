@@ -112,7 +112,7 @@ every (suc n) test = test n && every n test
 
 -- No cell is reached from its own parts: the occurs check, over all cells.
 abbrev pub acyclic : Graph → Bool
-acyclic g = every (length g) (grounded (length g + 1) g (replicate (length g) false))
+acyclic g = every (length g) (grounded (suc (length g)) g (replicate (length g) false))
 
 -- the term that a cell stands for; its variables are the numbers of free cells
 abbrev pub unroll : Cell → ℕ → (ℕ → Term) → Term
@@ -128,4 +128,4 @@ readback (suc fuel) g i =
     unroll (cell g r) r (readback fuel g)
 
 abbrev pub termOf : Graph → ℕ → Term
-termOf g i = readback (length g + 1) g i
+termOf g i = readback (suc (length g)) g i
