@@ -5,6 +5,7 @@ pub mod Rules
 pub mod Cells
 pub mod Solutions
 pub mod Solve
+pub mod Solved
 pub mod Constraints
 pub mod Strings
 pub mod Parsing

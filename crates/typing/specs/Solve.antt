@@ -56,7 +56,7 @@ distinct seen (k ∷ ks) = distinct (cond (member k seen) seen (seen ++ k ∷ []
 
 abbrev pub position : ℕ → List ℕ → ℕ
 position k [] = 0
-position k (x ∷ xs) = cond (eqb k x) 0 (position k xs + 1)
+position k (x ∷ xs) = cond (eqb k x) 0 (suc (position k xs))
 
 -- the form with its variables numbered from 0 by first appearance
 abbrev pub canonical : Form → Form

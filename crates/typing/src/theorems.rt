@@ -1,7 +1,13 @@
 // Theorems that the specifications state, each on a function that answers nothing.
+ghost use Rattle.typing.specs.Solved.{Solves-exactly};
 ghost use Rattle.typing.specs.Worked.{Worked};
 
 // Each tree of the table of worked strings alone gives its string.
 pub fn worked_strings()
     ensures { λ _. ⌜ Worked ⌝ }
+{}
+
+// Solving equations finds the most general form, and finds none only if there is no solution.
+pub fn most_general_solutions()
+    ensures { λ _. ⌜ Solves-exactly ⌝ }
 {}
