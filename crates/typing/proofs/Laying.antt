@@ -148,7 +148,7 @@ pub record AllPlaced (es : Equations) (g g′ : Graph) (ps : Pairs) : Type 0 whe
   pub onto : (σ : ℕ → Term) → Solves σ g′ → Holds σ es → Equal σ ps
   pub back : (σ : ℕ → Term) → Solves σ g′ → Equal σ ps → Holds σ es
 
-all-bounded-more : (n m : ℕ) → n ≤ m → (es : Equations) → AllBounded n es → AllBounded m es
+pub all-bounded-more : (n m : ℕ) → n ≤ m → (es : Equations) → AllBounded n es → AllBounded m es
 all-bounded-more n m le [] b = tt
 all-bounded-more n m le (e ∷ es) b = (bounded-more n m le (e .0) (b .0), bounded-more n m le (e .1) (b .1), all-bounded-more n m le es (b .2))
 

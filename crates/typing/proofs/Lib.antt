@@ -5,3 +5,5 @@ pub mod Occurs
 pub mod Laying
 pub mod Renaming
 pub mod Solving
+pub mod Shapes
+pub mod Sorting

@@ -117,14 +117,14 @@ equal-parts σ [] qs e = (tt, e)
 equal-parts σ (p ∷ ps) qs e = let r = equal-parts σ ps qs (e .1) in ((e .0, r .0), r .1)
 
 -- The pairs ps over the graph g have the solutions that ps′ have over g′, and less is left to do.
-record Kept (n : ℕ) (g : Graph) (ps : Pairs) (g′ : Graph) (ps′ : Pairs) : Type 0 where
-  tidy : Tidy n g′
-  within : Within n ps′
-  less : 3 * live g′ + length ps′ < 3 * live g + length ps
-  onto : (σ : ℕ → Term) → Solves σ g → Equal σ ps → Solves σ g′ × Equal σ ps′
-  back : (σ : ℕ → Term) → Solves σ g′ → Equal σ ps′ → Solves σ g × Equal σ ps
+pub record Kept (n : ℕ) (g : Graph) (ps : Pairs) (g′ : Graph) (ps′ : Pairs) : Type 0 where
+  pub tidy : Tidy n g′
+  pub within : Within n ps′
+  pub less : 3 * live g′ + length ps′ < 3 * live g + length ps
+  pub onto : (σ : ℕ → Term) → Solves σ g → Equal σ ps → Solves σ g′ × Equal σ ps′
+  pub back : (σ : ℕ → Term) → Solves σ g′ → Equal σ ps′ → Solves σ g × Equal σ ps
 
-abbrev Sound : ℕ → Graph → Pairs → Outcome → Type 0
+abbrev pub Sound : ℕ → Graph → Pairs → Outcome → Type 0
 Sound n g ps clash = (σ : ℕ → Term) → Solves σ g → Equal σ ps → ⊥
 Sound n g ps (solved g′) = (g ≡ g′) × (ps ≡ [])
 Sound n g ps (more g′ ps′) = Kept n g ps g′ ps′
@@ -200,7 +200,7 @@ module _ (n : ℕ) (g : Graph) (tidy : Tidy n g) (low high : ℕ) (lt : low < hi
             let old = linked-back σ (m .0) solves (r .0) (r .1) in
             (old, (from σ old e, both .1))
 
-ordered : (P : ℕ → ℕ → Type 0) (a b : ℕ) → P a b → P b a → P (min a b) (max a b)
+pub ordered : (P : ℕ → ℕ → Type 0) (a b : ℕ) → P a b → P b a → P (min a b) (max a b)
 ordered P a b pab pba = by-order (cases-lt a b)
   where
     by-order : (a < b) ⊎ (b ≤ a) → P (min a b) (max a b)
@@ -237,7 +237,7 @@ module _ (n : ℕ) (g : Graph) (tidy : Tidy n g) (p : ℕ × ℕ) (ps : Pairs) (
       (λ σ solves e. pair-equal σ solves (ordered (λ l h. σ l ≡ σ h → σ a ≡ σ b) a b (λ q. q) (λ q. sym q) e))
       (meet (cell g (min a b)) (cell g (max a b))) refl
 
-step-sound : (n : ℕ) (g : Graph) (ps : Pairs) → Tidy n g → Within n ps → Sound n g ps (step g ps)
+pub step-sound : (n : ℕ) (g : Graph) (ps : Pairs) → Tidy n g → Within n ps → Sound n g ps (step g ps)
 step-sound n g [] tidy within = (refl, refl)
 step-sound n g (p ∷ ps) tidy within = unite-sound n g tidy p ps within (eqb (find g (p .0)) (find g (p .1))) refl
 

@@ -15,12 +15,12 @@ use Rattle.typing.specs.Terms.{Term, var, head, _·_, fill}
 use Rattle.typing.proofs.Finding.{find-value, find-root, find-down, find-stays, find-link}
 
 -- how many heads a term has
-abbrev size : Term → ℕ
+abbrev pub size : Term → ℕ
 size (var k) = 1
 size (head h) = 1
 size (f · x) = size f + size x
 
-size-some : (t : Term) → 1 ≤ size t
+pub size-some : (t : Term) → 1 ≤ size t
 size-some (var k) = omega arith
 size-some (head h) = omega arith
 size-some (f · x) = omega (arith, size-some f)
@@ -124,7 +124,7 @@ readback-stable g (suc fuel) zero passed i le passes = absurd (omega arith)
 readback-stable g (suc fuel) (suc fuel′) passed i le passes =
     unroll-same (getD passed (find g i) false) (cell g (find g i)) (find g i) (grounded fuel g (set passed (find g i) true)) passes (readback fuel g) (readback fuel′ g) (λ j ok. readback-stable g fuel fuel′ (set passed (find g i) true) j (omega arith) ok)
 
-every-at : (n : ℕ) (test : ℕ → Bool) → every n test ≡ true → (i : ℕ) → i < n → test i ≡ true
+pub every-at : (n : ℕ) (test : ℕ → Bool) → every n test ≡ true → (i : ℕ) → i < n → test i ≡ true
 every-at zero test all i lt = absurd (omega arith)
 every-at (suc n) test all i lt =
     let both = and-parts (test n) (every n test) all in
