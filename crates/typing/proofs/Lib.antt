@@ -7,3 +7,4 @@ pub mod Renaming
 pub mod Solving
 pub mod Shapes
 pub mod Sorting
+pub mod SolvingSorted

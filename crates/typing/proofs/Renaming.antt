@@ -22,7 +22,7 @@ pub each-append : (P : ℕ → Type 0) (xs ys : List ℕ) → Each P (xs ++ ys) 
 each-append P [] ys all = (tt, all)
 each-append P (x ∷ xs) ys all = let r = each-append P xs ys (all .1) in ((all .0, r .0), r .1)
 
-each-map : (P Q : ℕ → Type 0) → ((k : ℕ) → P k → Q k) → (xs : List ℕ) → Each P xs → Each Q xs
+pub each-map : (P Q : ℕ → Type 0) → ((k : ℕ) → P k → Q k) → (xs : List ℕ) → Each P xs → Each Q xs
 each-map P Q f [] all = tt
 each-map P Q f (x ∷ xs) all = (f x (all .0), each-map P Q f xs (all .1))
 
@@ -93,7 +93,7 @@ distinct-keeps k [] seen m = m
 distinct-keeps k (x ∷ ks) seen m =
     distinct-keeps k ks (cond (member x seen) seen (seen ++ x ∷ [])) (elim (member x seen) as (λ b. member k (cond b seen (seen ++ x ∷ [])) ≡ true) [ true ↦ m | false ↦ member-append k seen (x ∷ []) m ])
 
-distinct-has : (ks seen : List ℕ) → Each (λ k. member k (distinct seen ks) ≡ true) ks
+pub distinct-has : (ks seen : List ℕ) → Each (λ k. member k (distinct seen ks) ≡ true) ks
 distinct-has [] seen = tt
 distinct-has (x ∷ ks) seen =
     (distinct-keeps x ks (cond (member x seen) seen (seen ++ x ∷ [])) (now-in (member x seen) refl), distinct-has ks (cond (member x seen) seen (seen ++ x ∷ [])))
@@ -102,7 +102,7 @@ distinct-has (x ∷ ks) seen =
     now-in true is = is
     now-in false is = member-push x seen
 
-position-of : (k : ℕ) (xs : List ℕ) → member k xs ≡ true → getD xs (position k xs) 0 ≡ k
+pub position-of : (k : ℕ) (xs : List ℕ) → member k xs ≡ true → getD xs (position k xs) 0 ≡ k
 position-of k [] m = absurd (let z : false ≡ true = m in let y : _≡_ {A = ℕ} 0 1 = cc in omega (arith, y))
 position-of k (x ∷ xs) m = by-test (eqb k x) refl m (position-of k xs)
   where

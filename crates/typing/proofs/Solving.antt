@@ -21,12 +21,12 @@ use Rattle.typing.proofs.Occurs.{acyclic-holds, term-value, term-solves}
 use Rattle.typing.proofs.Renaming.{fill-bounded, filled-alike, filled-twice, filled-bounded, canonical-onto, canonical-back}
 
 -- so many free cells
-cell-free : (n i : ℕ) → cell (replicate n free) i ≡ free
+pub cell-free : (n i : ℕ) → cell (replicate n free) i ≡ free
 cell-free zero i = refl
 cell-free (suc n) zero = refl
 cell-free (suc n) (suc i) = cell-free n i
 
-free-tidy : (n : ℕ) → Tidy (length (replicate n free)) (replicate n free)
+pub free-tidy : (n : ℕ) → Tidy (length (replicate n free)) (replicate n free)
 free-tidy n = record { long = refl; proper = λ i. subst (Proper (length (replicate n free)) i) (sym (cell-free n i)) tt }
 
 free-solves : (n : ℕ) (σ : ℕ → Term) → Solves σ (replicate n free)
@@ -38,20 +38,20 @@ holds-agree n σ ρ agree (e ∷ es) b h =
     (fill-bounded σ ρ n agree (e .0) (b .0) ∙ h .0 ∙ sym (fill-bounded σ ρ n agree (e .1) (b .1)), holds-agree n σ ρ agree es (b .2) (h .1))
 
 module _ (P : Problem) (posed : Posed P) where
-  long : length (replicate (P .unknowns) free) ≡ P .unknowns
+  pub long : length (replicate (P .unknowns) free) ≡ P .unknowns
   long = length-replicate (P .unknowns) free
 
-  placed : AllPlaced (P .equations) (replicate (P .unknowns) free) (layAll (P .equations) (replicate (P .unknowns) free) .0) (layAll (P .equations) (replicate (P .unknowns) free) .1)
+  pub placed : AllPlaced (P .equations) (replicate (P .unknowns) free) (layAll (P .equations) (replicate (P .unknowns) free) .0) (layAll (P .equations) (replicate (P .unknowns) free) .1)
   placed = lay-all-placed (P .equations) (replicate (P .unknowns) free) (free-tidy (P .unknowns)) (subst (λ n. AllBounded n (P .equations)) (sym long) (posed .equations))
 
-  abbrev graph : Graph
+  abbrev pub graph : Graph
   graph = layAll (P .equations) (replicate (P .unknowns) free) .0
 
-  abbrev pairs : Pairs
+  abbrev pub pairs : Pairs
   pairs = layAll (P .equations) (replicate (P .unknowns) free) .1
 
   -- a solution of the equations gives one of the graph
-  spread : (ρ : ℕ → Term) → Holds ρ (P .equations) → (σ : ℕ → Term) × Solves σ graph × Equal σ pairs × ((k : ℕ) → k < P .unknowns → σ k ≡ ρ k)
+  pub spread : (ρ : ℕ → Term) → Holds ρ (P .equations) → (σ : ℕ → Term) × Solves σ graph × Equal σ pairs × ((k : ℕ) → k < P .unknowns → σ k ≡ ρ k)
   spread ρ h =
       let on = placed .laid .onto ρ (free-solves (P .unknowns) ρ) in
       let agree : (k : ℕ) → k < P .unknowns → on .0 k ≡ ρ k = λ k lt. on .2 k (omega (arith, lt, long)) in

@@ -14,9 +14,9 @@ use Rattle.typing.specs.Cells.{Cell, free, link, atom, apply, Graph, Pairs, ce
 use Rattle.typing.specs.Heads.{Sort, type, place, resultOf, partsOf}
 use Rattle.typing.specs.Solutions.{Proper, Tidy}
 use Rattle.typing.specs.Solve.{Equations, lay, layAll}
-use Rattle.typing.specs.Solved.{Bounded, AllBounded}
+use Rattle.typing.specs.Solved.{Bounded, AllBounded, EquationsSorted}
 use Rattle.typing.specs.Terms.{Term, var, head, _·_, fill, variables, Sorted}
-use Rattle.typing.proofs.Laying.{Laid, Placed, lay-placed, bounded-more, all-bounded-more}
+use Rattle.typing.proofs.Laying.{Laid, Placed, lay-placed, AllPlaced, lay-all-placed, bounded-more, all-bounded-more}
 use Rattle.typing.proofs.Renaming.{Each, each-append}
 use Rattle.typing.proofs.Shapes.{Shape, _⇒_, Shaped, WellShaped, SamePairs, Spine, spine-unique}
 
@@ -64,6 +64,11 @@ sorted-agree V W labels n agree (var k) N s b so = (so .0, agree k s b (so .1))
 sorted-agree V W labels n agree (head h) N s b so = so
 sorted-agree V W labels n agree (f · x) N s b so =
     (so .0, sorted-agree V W labels n agree f (so .0 ∷ N) s (b .0) (so .1), sorted-agree V W labels n agree x [] (so .0) (b .1) (so .2))
+
+pub equations-agree : (V W : ℕ → Sort → Type 0) (labels n : ℕ) → ((k : ℕ) (q : Sort) → k < n → V k q → W k q) → (es : Equations) → AllBounded n es → EquationsSorted V labels es → EquationsSorted W labels es
+equations-agree V W labels n agree [] b so = tt
+equations-agree V W labels n agree (e ∷ es) b so =
+    ((so .0 .0, sorted-agree V W labels n agree (e .0) [] (so .0 .0) (b .0) (so .0 .1), sorted-agree V W labels n agree (e .1) [] (so .0 .0) (b .1) (so .0 .2)), equations-agree V W labels n agree es (b .2) (so .1))
 
 -- the shapes with another one at k
 with-shape : (ℕ → Shape) → ℕ → Shape → ℕ → Shape
@@ -134,3 +139,28 @@ lay-shaped labels (f · x) S g tidy well b N s so =
     let sc : with-shape S₂ (length g₂) v c ≡ ([] ⇒ so .0) = shape-other S₂ (length g₂) v c (omega (arith, q .inside)) ∙ two .1 in
     let here = shape-here S₂ (length g₂) v in
     (record { shapes = with-shape S₂ (length g₂) v; well = push-shaped labels S₂ g₂ (apply a c) v (q .laid .tidy) (two .0 .well) (so .0, N, s, sa, sc, here); agree = λ i lt. shape-other S₂ (length g₂) v i (omega (arith, lt, p .laid .longer, q .laid .longer)) ∙ two .0 .agree i (omega (arith, lt, p .laid .longer)) ∙ one .0 .agree i lt }, here)
+
+pub lay-all-shaped : (labels : ℕ) (es : Equations) (S : ℕ → Shape) (g : Graph) → Tidy (length g) g → WellShaped labels S g → AllBounded (length g) es → EquationsSorted (VarShape S) labels es → (f : Fitted labels S g (layAll es g .0)) × SamePairs (f .shapes) (layAll es g .1)
+lay-all-shaped labels [] S g tidy well b so = (record { shapes = S; well = well; agree = λ i lt. refl }, tt)
+lay-all-shaped labels (e ∷ es) S g tidy well b so =
+    let p = lay-placed (e .0) g tidy (b .0) in
+    let g₁ = lay (e .0) g .0 in
+    let by = bounded-more (length g) (length g₁) (p .laid .longer) (e .1) (b .1) in
+    let q = lay-placed (e .1) g₁ (p .laid .tidy) by in
+    let g₂ = lay (e .1) g₁ .0 in
+    let le : length g ≤ length g₂ = omega (arith, p .laid .longer, q .laid .longer) in
+    let be = all-bounded-more (length g) (length g₂) le es (b .2) in
+    let r = lay-all-placed es g₂ (q .laid .tidy) be in
+    let s = so .0 .0 in
+    let one = lay-shaped labels (e .0) S g tidy well (b .0) [] s (so .0 .1) in
+    let S₁ = one .0 .shapes in
+    let two = lay-shaped labels (e .1) S₁ g₁ (p .laid .tidy) (one .0 .well) by [] s (sorted-agree (VarShape S) (VarShape S₁) labels (length g) (var-agree (length g) S S₁ (one .0 .agree)) (e .1) [] s (b .1) (so .0 .2)) in
+    let S₂ = two .0 .shapes in
+    let below₂ : AgreeShapes (length g) S₂ S = λ i lt. two .0 .agree i (omega (arith, lt, p .laid .longer)) ∙ one .0 .agree i lt in
+    let rest = lay-all-shaped labels es S₂ g₂ (q .laid .tidy) (two .0 .well) be (equations-agree (VarShape S) (VarShape S₂) labels (length g) (var-agree (length g) S S₂ below₂) es (b .2) (so .1)) in
+    let S₃ = rest .0 .shapes in
+    let i = lay (e .0) g .1 in
+    let j = lay (e .1) g₁ .1 in
+    let ati : S₃ i ≡ ([] ⇒ s) = rest .0 .agree i (omega (arith, p .inside, q .laid .longer)) ∙ two .0 .agree i (p .inside) ∙ one .1 in
+    let atj : S₃ j ≡ ([] ⇒ s) = rest .0 .agree j (q .inside) ∙ two .1 in
+    (record { shapes = S₃; well = rest .0 .well; agree = λ k lt. rest .0 .agree k (omega (arith, lt, le)) ∙ below₂ k lt }, (ati ∙ sym atj, rest .1))

@@ -4,9 +4,11 @@ use mathlib.Core.Path.{_≡_}
 use mathlib.Core.List.{List, [], _∷_}
 use Rattle.std.specs.declared.option.Option.{Option}
 use Rattle.std.specs.declared.option.Option.the-variants.{Some, None}
-use Rattle.typing.specs.Forms.{Form}
+use Rattle.typing.specs.Forms.{Context, Grounded, Form, Agrees, Stands}
+use Rattle.typing.specs.Heads.{Sort, type}
 use Rattle.typing.specs.Solve.{Equations, Problem, filled, solve}
-use Rattle.typing.specs.Terms.{Term, var, head, _·_, fill}
+use Rattle.typing.specs.Strings.{Types}
+use Rattle.typing.specs.Terms.{Term, var, head, _·_, fill, Sorted, GroundType}
 
 -- the equations hold where the variables have these values
 abbrev pub Holds : (ℕ → Term) → Equations → Type 0
@@ -42,3 +44,39 @@ Answers P (Some F) =
 
 abbrev pub Solves-exactly : Type 0
 Solves-exactly = (P : Problem) → Posed P → Answers P (solve P)
+
+-- both sides of each equation have one sort
+abbrev pub EquationsSorted : (ℕ → Sort → Type 0) → ℕ → Equations → Type 0
+EquationsSorted V labels [] = Unit {0}
+EquationsSorted V labels (e ∷ es) =
+    ((s : Sort) × Sorted V labels [] s (e .0) × Sorted V labels [] s (e .1)) × EquationsSorted V labels es
+
+-- a problem whose unknowns have sorts, over which it makes sense
+pub record WellSorted (labels : ℕ) (P : Problem) : Type 0 where
+  pub sorts : ℕ → Sort
+  pub equations : EquationsSorted (λ k s. sorts k ≡ s) labels (P .equations)
+  pub entries : Types (λ k s. sorts k ≡ s) labels (P .form .entries)
+  pub result : Sorted (λ k s. sorts k ≡ s) labels [] type (P .form .result)
+
+-- The pair of context and type is got from a solution that gives each unknown a ground term of its sort.
+pub record Satisfies (labels : ℕ) (P : Problem) (sorts : ℕ → Sort) (Γ : Context) (A : Term) : Type 0 where
+  pub values : ℕ → Term
+  pub sorted : (k : ℕ) → k < P .unknowns → Sorted (λ j s. ⊥) labels [] (sorts k) (values k)
+  pub holds : Holds values (P .equations)
+  pub agrees : Agrees values (P .form .entries) Γ
+  pub is : A ≡ fill values (P .form .result)
+
+-- The form stands for just the pairs that satisfy the problem, and is itself sorted.
+pub record Exact (labels : ℕ) (P : Problem) (sorts : ℕ → Sort) (F : Form) : Type 0 where
+  pub form-sorts : ℕ → Sort
+  pub entries : Types (λ k s. form-sorts k ≡ s) labels (F .entries)
+  pub result : Sorted (λ k s. form-sorts k ≡ s) labels [] type (F .result)
+  pub onto : (Γ : Context) (A : Term) → Grounded labels Γ → GroundType labels A → Satisfies labels P sorts Γ A → Stands labels F Γ A
+  pub back : (Γ : Context) (A : Term) → Stands labels F Γ A → Satisfies labels P sorts Γ A
+
+abbrev pub AnswersSorted : (labels : ℕ) (P : Problem) → (ℕ → Sort) → Option Form → Type 0
+AnswersSorted labels P sorts None = (Γ : Context) (A : Term) → Satisfies labels P sorts Γ A → ⊥
+AnswersSorted labels P sorts (Some F) = Exact labels P sorts F
+
+abbrev pub Solves-exactly-sorted : Type 0
+Solves-exactly-sorted = (labels : ℕ) (P : Problem) → Posed P → (W : WellSorted labels P) → AnswersSorted labels P (W .sorts) (solve P)

@@ -46,10 +46,10 @@ abbrev pub Numbered : ℕ → List ℕ → Type 0
 Numbered n [] = Unit {0}
 Numbered n (k ∷ ks) = (k ≤ n) × Numbered (max n (k + 1)) ks
 
--- each entry is a type, where the variables have these sorts
-abbrev pub Types : (ℕ → Sort) → ℕ → List (Name × Term) → Type 0
-Types sorts labels [] = Unit {0}
-Types sorts labels (e ∷ es) = Sorted (λ k s. sorts k ≡ s) labels [] type (e .1) × Types sorts labels es
+-- each entry is a type, where a variable may stand for what V says
+abbrev pub Types : (ℕ → Sort → Type 0) → ℕ → List (Name × Term) → Type 0
+Types V labels [] = Unit {0}
+Types V labels (e ∷ es) = Sorted V labels [] type (e .1) × Types V labels es
 
 -- the longest form that is written
 abbrev pub longest : ℕ
@@ -59,7 +59,7 @@ longest = 240
 pub record Good (labels : ℕ) (F : Form) : Type 0 where
   pub rising : Rising (F .entries)
   pub sorts : ℕ → Sort
-  pub types : Types sorts labels (F .entries)
+  pub types : Types (λ k s. sorts k ≡ s) labels (F .entries)
   pub result : Sorted (λ k s. sorts k ≡ s) labels [] type (F .result)
   pub numbered : Numbered 0 (formVariables F)
   pub short : length (formBytes F) ≤ longest
