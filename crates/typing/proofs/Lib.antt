@@ -8,3 +8,5 @@ pub mod Solving
 pub mod Shapes
 pub mod Sorting
 pub mod SolvingSorted
+pub mod NamesOrder
+pub mod Joining

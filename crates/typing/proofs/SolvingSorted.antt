@@ -76,7 +76,7 @@ agrees-alike ρ τ Γ (e ∷ es) each a =
     let r = each-append (λ k. ρ k ≡ τ k) (variables (e .1)) (entryVariables es) each in
     (a .0 ∙ ap Some (fill-alike ρ τ (e .1) (r .0)), agrees-alike ρ τ Γ es (r .1) (a .1))
 
-agrees-renamed : (ρ τ : ℕ → Term) (Γ : Context) (es : List (Name × Term)) → Agrees τ (renamedEntries ρ es) Γ → Agrees (λ k. fill τ (ρ k)) es Γ
+pub agrees-renamed : (ρ τ : ℕ → Term) (Γ : Context) (es : List (Name × Term)) → Agrees τ (renamedEntries ρ es) Γ → Agrees (λ k. fill τ (ρ k)) es Γ
 agrees-renamed ρ τ Γ [] a = tt
 agrees-renamed ρ τ Γ (e ∷ es) a = (a .0 ∙ ap Some (fill-fill τ ρ (e .1)), agrees-renamed ρ τ Γ es (a .1))
 

@@ -1,8 +1,8 @@
 -- The equations of each kind of node over the forms of its children. Computes. Assumes nothing.
-use Prim.Native.Nat.{ℕ, zero, suc, _+_}
+use Prim.Native.Nat.{ℕ, zero, suc, _+_, max}
 use mathlib.Core.Bool.{cond}
 use mathlib.Core.List.{List, [], _∷_, _++_}
-use lib.ListN.{length, getD, set, replicate}
+use lib.ListN.{getD, set, replicate}
 use Rattle.std.specs.declared.option.Option.{Option}
 use Rattle.std.specs.declared.option.Option.the-variants.{Some, None}
 use Rattle.syntax.specs.Labels.{labelCode}
@@ -11,7 +11,7 @@ use Rattle.syntax.specs.declared.argument.Argument.the-variants as argument
 use Rattle.syntax.specs.declared.kind.Kind.{Kind}
 use Rattle.syntax.specs.declared.kind.Kind.the-variants.{Hole, Num, Var, Nil, Lam, Fix, Sel, App, Add, Ext, Ifz}
 use Rattle.typing.specs.Forms.{Name, Form, same, formVariables}
-use Rattle.typing.specs.Solve.{Equations, Problem, filled, distinct}
+use Rattle.typing.specs.Solve.{Equations, Problem, filled}
 use Rattle.typing.specs.Strings.{before}
 use Rattle.typing.specs.Terms.{Term, var, num, fun, rec, absent, present}
 
@@ -58,9 +58,14 @@ abbrev pub fresh : ℕ → ℕ → List Term
 fresh zero w = []
 fresh (suc n) w = var w ∷ fresh n (w + 1)
 
+-- the least number that is above these
+abbrev pub above : List ℕ → ℕ
+above [] = 0
+above (k ∷ ks) = max (k + 1) (above ks)
+
 -- how many variables a form has that numbers them from 0
 abbrev pub width : Form → ℕ
-width F = length (distinct [] (formVariables F))
+width F = above (formVariables F)
 
 abbrev pub shifted : ℕ → Form → Form
 shifted w F = filled (λ k. var (w + k)) F

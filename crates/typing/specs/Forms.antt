@@ -6,7 +6,7 @@ use mathlib.Core.List.{List, [], _∷_, _++_}
 use lib.Dec.{eqb}
 use Rattle.std.specs.declared.option.Option.{Option}
 use Rattle.std.specs.declared.option.Option.the-variants.{Some, None}
-use Rattle.typing.specs.Terms.{Term, GroundType, fill, variables}
+use Rattle.typing.specs.Terms.{Term, var, GroundType, fill, variables}
 
 -- a name is its four bytes
 abbrev pub Name : Type 0
@@ -36,6 +36,10 @@ given n A Γ m = cond (same n m) (Some A) (Γ m)
 pub record Form : Type 0 where
   pub entries : List (Name × Term)
   pub result : Term
+
+-- the form of a hole stands for every pair
+abbrev pub holeForm : Form
+holeForm = record { entries = []; result = var 0 }
 
 abbrev pub Agrees : (ℕ → Term) → List (Name × Term) → Context → Type 0
 Agrees ρ [] Γ = Unit {0}

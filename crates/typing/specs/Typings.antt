@@ -12,14 +12,10 @@ use Rattle.syntax.specs.declared.argument.Symbol.{Symbol}
 use Rattle.syntax.specs.declared.kind.Kind.{Kind}
 use Rattle.syntax.specs.declared.kind.Kind.the-variants.{Hole, Num, Var, Nil, Lam, Fix, Sel, App, Add, Ext, Ifz}
 use Rattle.typing.specs.Constraints.{joined, constraints}
-use Rattle.typing.specs.Forms.{Form}
+use Rattle.typing.specs.Forms.{Form, holeForm}
 use Rattle.typing.specs.Parsing.{readTyping}
 use Rattle.typing.specs.Solve.{solve}
 use Rattle.typing.specs.Strings.{Status, formed, clashed, overlong, Typing, formBytes, typingBytes, longest, most}
-use Rattle.typing.specs.Terms.{var}
-
-abbrev pub holeForm : Form
-holeForm = record { entries = []; result = var 0 }
 
 -- A faulty child is read as a hole.
 abbrev pub formOf : Status → Form
