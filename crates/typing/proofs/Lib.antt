@@ -10,3 +10,6 @@ pub mod Sorting
 pub mod SolvingSorted
 pub mod NamesOrder
 pub mod Joining
+pub mod Records
+pub mod Children
+pub mod KindRules

@@ -64,13 +64,13 @@ types-fill V W Q labels ρ good (e ∷ es) each so =
     (fill-sorted V W Q labels ρ good (e .1) [] type (r .0) (so .0), types-fill V W Q labels ρ good es (r .1) (so .1))
 
 -- each variable of entries that agree with a ground context is filled with a term of its sort
-types-unfill : (V : ℕ → Sort → Type 0) (labels : ℕ) (ρ : ℕ → Term) → ((k : ℕ) (q r : Sort) → V k q → V k r → q ≡ r) → (Γ : Context) → Grounded labels Γ → (es : List (Name × Term)) → Types V labels es → Agrees ρ es Γ → Each (λ k. (q : Sort) → V k q → Sorted (λ j s. ⊥) labels [] q (ρ k)) (entryVariables es)
+pub types-unfill : (V : ℕ → Sort → Type 0) (labels : ℕ) (ρ : ℕ → Term) → ((k : ℕ) (q r : Sort) → V k q → V k r → q ≡ r) → (Γ : Context) → Grounded labels Γ → (es : List (Name × Term)) → Types V labels es → Agrees ρ es Γ → Each (λ k. (q : Sort) → V k q → Sorted (λ j s. ⊥) labels [] q (ρ k)) (entryVariables es)
 types-unfill V labels ρ one Γ ground [] so a = tt
 types-unfill V labels ρ one Γ ground (e ∷ es) so a =
     each-join (λ k. (q : Sort) → V k q → Sorted (λ j s. ⊥) labels [] q (ρ k)) (variables (e .1)) (entryVariables es)
     (unfill-sorted V (λ j s. ⊥) labels ρ one (e .1) [] type (so .0) (ground (e .0) (fill ρ (e .1)) (a .0))) (types-unfill V labels ρ one Γ ground es (so .1) (a .1))
 
-agrees-alike : (ρ τ : ℕ → Term) (Γ : Context) (es : List (Name × Term)) → Each (λ k. ρ k ≡ τ k) (entryVariables es) → Agrees ρ es Γ → Agrees τ es Γ
+pub agrees-alike : (ρ τ : ℕ → Term) (Γ : Context) (es : List (Name × Term)) → Each (λ k. ρ k ≡ τ k) (entryVariables es) → Agrees ρ es Γ → Agrees τ es Γ
 agrees-alike ρ τ Γ [] each a = tt
 agrees-alike ρ τ Γ (e ∷ es) each a =
     let r = each-append (λ k. ρ k ≡ τ k) (variables (e .1)) (entryVariables es) each in
@@ -80,7 +80,7 @@ pub agrees-renamed : (ρ τ : ℕ → Term) (Γ : Context) (es : List (Name × T
 agrees-renamed ρ τ Γ [] a = tt
 agrees-renamed ρ τ Γ (e ∷ es) a = (a .0 ∙ ap Some (fill-fill τ ρ (e .1)), agrees-renamed ρ τ Γ es (a .1))
 
-each-member : (P : ℕ → Type 0) (xs : List ℕ) (k : ℕ) → Each P xs → member k xs ≡ true → P k
+pub each-member : (P : ℕ → Type 0) (xs : List ℕ) (k : ℕ) → Each P xs → member k xs ≡ true → P k
 each-member P [] k each m = absurd (both-ways false refl m)
 each-member P (x ∷ xs) k each m = by-case (or-cases (eqb k x) (member k xs) m) (each-member P xs k (each .1))
   where
@@ -88,7 +88,7 @@ each-member P (x ∷ xs) k each m = by-case (or-cases (eqb k x) (member k xs) m)
     by-case (inl e) later = subst P (sym (eqb-true k x e)) (each .0)
     by-case (inr e) later = later e
 
-each-self : (xs : List ℕ) → Each (λ k. member k xs ≡ true) xs
+pub each-self : (xs : List ℕ) → Each (λ k. member k xs ≡ true) xs
 each-self xs = all xs xs (λ k m. m)
   where
     all : (ys zs : List ℕ) → ((k : ℕ) → member k ys ≡ true → member k zs ≡ true) → Each (λ k. member k zs ≡ true) ys
