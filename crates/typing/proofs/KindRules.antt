@@ -51,7 +51,7 @@ fun-parts V labels a b so =
     (subst (λ s. Sorted V labels [] s a) (sym ea) (so .1 .2), subst (λ s. Sorted V labels [] s b) (sym eb) (so .2))
 
 -- the pairs of one, two and three children, with holes behind them
-types₁ : Term → ℕ → Term
+unfoldable pub types₁ : Term → ℕ → Term
 types₁ A zero = A
 types₁ A (suc j) = num
 
@@ -66,7 +66,7 @@ types₃ A B D (suc j) = types₂ B D j
 num-ground : (labels : ℕ) → GroundType labels num
 num-ground labels = (refl, refl)
 
-stands₁ : (labels : ℕ) (Γ : Context) → Grounded labels Γ → (F : Form) (A : Term) → Stands labels F Γ A → (j : ℕ) → Stands labels (formAt (F ∷ []) j) Γ (types₁ A j)
+pub stands₁ : (labels : ℕ) (Γ : Context) → Grounded labels Γ → (F : Form) (A : Term) → Stands labels F Γ A → (j : ℕ) → Stands labels (formAt (F ∷ []) j) Γ (types₁ A j)
 unfolding types₁
 stands₁ labels Γ ground F A s zero = s
 stands₁ labels Γ ground F A s (suc j) = hole-stands labels Γ ground num (num-ground labels)

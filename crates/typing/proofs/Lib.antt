@@ -13,3 +13,4 @@ pub mod Joining
 pub mod Records
 pub mod Children
 pub mod KindRules
+pub mod LamRule
