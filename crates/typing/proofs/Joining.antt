@@ -17,7 +17,7 @@ use Rattle.typing.specs.Forms.{Name, Context, Form, holeForm, same, Agrees, en
 use Rattle.typing.specs.Heads.{Sort, type, place}
 use Rattle.typing.specs.Solve.{Equations, renamedEntries, filled}
 use Rattle.typing.specs.Solved.{Holds, Bounded, AllBounded, EntriesBounded, EquationsSorted}
-use Rattle.typing.specs.Strings.{before, Ahead, Rising, Types, Good}
+use Rattle.typing.specs.Strings.{before, Ahead, Rising, Types}
 use Rattle.typing.specs.Terms.{Term, var, head, _·_, num, fill, variables, Sorted}
 use Rattle.typing.proofs.Laying.{bounded-more, all-bounded-more}
 use Rattle.typing.proofs.NamesOrder.{same-true, before-total}
@@ -156,7 +156,7 @@ pub entries-bounded-more : (n m : ℕ) → n ≤ m → (es : Entries) → Entrie
 entries-bounded-more n m le [] b = tt
 entries-bounded-more n m le (e ∷ es) b = (bounded-more n m le (e .1) (b .0), entries-bounded-more n m le es (b .1))
 
-renamed-rising : (ρ : ℕ → Term) (es : Entries) → Rising es → Rising (renamedEntries ρ es)
+pub renamed-rising : (ρ : ℕ → Term) (es : Entries) → Rising es → Rising (renamedEntries ρ es)
 renamed-rising ρ [] r = tt
 renamed-rising ρ (e ∷ []) r = (r .0, tt, tt)
 renamed-rising ρ (e ∷ f ∷ es) r = (r .0, r .1, renamed-rising ρ (f ∷ es) (r .2))

@@ -73,10 +73,10 @@ given-grounded labels n T Γ type-T ground m A is = by-test (same n m) is
     by-test true e = let t : T ≡ A = cc in subst (GroundType labels) t type-T
     by-test false e = ground m A e
 
-given-same : (n m : Name) (T : Term) (Γ : Context) → same n m ≡ true → given n T Γ m ≡ Some T
+pub given-same : (n m : Name) (T : Term) (Γ : Context) → same n m ≡ true → given n T Γ m ≡ Some T
 given-same n m T Γ is = ap (λ b. cond b (Some T) (Γ m)) is
 
-given-other : (n m : Name) (T : Term) (Γ : Context) → same n m ≡ false → given n T Γ m ≡ Γ m
+pub given-other : (n m : Name) (T : Term) (Γ : Context) → same n m ≡ false → given n T Γ m ≡ Γ m
 given-other n m T Γ is = ap (λ b. cond b (Some T) (Γ m)) is
 
 module _ (n : Name) (T : Term) (Γ : Context) (ρ : ℕ → Term) where

@@ -14,3 +14,5 @@ pub mod Records
 pub mod Children
 pub mod KindRules
 pub mod LamRule
+pub mod Numbering
+pub mod NodeRule

@@ -10,4 +10,5 @@ pub mod Constraints
 pub mod Strings
 pub mod Parsing
 pub mod Typings
+pub mod Judgements
 pub mod Worked

@@ -51,17 +51,20 @@ abbrev pub Types : (ℕ → Sort → Type 0) → ℕ → List (Name × Term) →
 Types V labels [] = Unit {0}
 Types V labels (e ∷ es) = Sorted V labels [] type (e .1) × Types V labels es
 
--- the longest form that is written
-abbrev pub longest : ℕ
-longest = 240
-
--- A form that a string may hold: a variable stands for a type or for a place, never for both.
-pub record Good (labels : ℕ) (F : Form) : Type 0 where
+-- A form as it is written: a variable stands for a type or for a place, never for both.
+pub record Sound (labels : ℕ) (F : Form) : Type 0 where
   pub rising : Rising (F .entries)
   pub sorts : ℕ → Sort
   pub types : Types (λ k s. sorts k ≡ s) labels (F .entries)
   pub result : Sorted (λ k s. sorts k ≡ s) labels [] type (F .result)
   pub numbered : Numbered 0 (formVariables F)
+
+-- the longest form that a string may hold
+abbrev pub longest : ℕ
+longest = 240
+
+pub record Good (labels : ℕ) (F : Form) : Type 0 where
+  pub sound : Sound labels F
   pub short : length (formBytes F) ≤ longest
 
 pub data Status : Type 0 where
