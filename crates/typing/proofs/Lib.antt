@@ -16,3 +16,4 @@ pub mod KindRules
 pub mod LamRule
 pub mod Numbering
 pub mod NodeRule
+pub mod Relation

@@ -43,13 +43,13 @@ use Rattle.typing.proofs.SolvingSorted.{Given, given-agrees, types-fill, solve
 use Rattle.typing.proofs.Sorting.{fill-sorted, each-true}
 
 -- arguments and children by their number
-named : (Q : Argument → Type 0) → ((n : name.Name) → isName (n .0) ≡ true → Q (argument.Name n)) → (a : Argument) → ofSort sort.Name a ≡ true → Q a
+pub named : (Q : Argument → Type 0) → ((n : name.Name) → isName (n .0) ≡ true → Q (argument.Name n)) → (a : Argument) → ofSort sort.Name a ≡ true → Q a
 named Q is argument.Nothing fit = absurd (both-ways false refl fit)
 named Q is (argument.Number n) fit = absurd (both-ways false refl fit)
 named Q is (argument.Name n) fit = is n fit
 named Q is (argument.Label l) fit = absurd (both-ways false refl fit)
 
-labelled : (Q : Argument → Type 0) → ((l : Label) → Q (argument.Label l)) → (a : Argument) → ofSort sort.Label a ≡ true → Q a
+pub labelled : (Q : Argument → Type 0) → ((l : Label) → Q (argument.Label l)) → (a : Argument) → ofSort sort.Label a ≡ true → Q a
 labelled Q is argument.Nothing fit = absurd (both-ways false refl fit)
 labelled Q is (argument.Number n) fit = absurd (both-ways false refl fit)
 labelled Q is (argument.Name n) fit = absurd (both-ways false refl fit)

@@ -11,4 +11,5 @@ pub mod Strings
 pub mod Parsing
 pub mod Typings
 pub mod Judgements
+pub mod TreeTypings
 pub mod Worked
