@@ -17,3 +17,4 @@ pub mod LamRule
 pub mod Numbering
 pub mod NodeRule
 pub mod Relation
+pub mod TreeRule

@@ -1,6 +1,7 @@
 // Theorems that the specifications state, each on a function that answers nothing.
 ghost use Rattle.typing.specs.Judgements.{Rule-is-the-rules};
 ghost use Rattle.typing.specs.Solved.{Solves-exactly};
+ghost use Rattle.typing.specs.TreeTypings.{Counted, Most-general};
 ghost use Rattle.typing.specs.Worked.{Worked};
 
 // Each tree of the table of worked strings alone gives its string.
@@ -16,4 +17,15 @@ pub fn most_general_solutions()
 // A node's status and form are what its kind's rule says over the pairs of its children.
 pub fn rule_is_the_rules()
     ensures { λ _. ⌜ Rule-is-the-rules ⌝ }
+{}
+
+// What a tree alone gives stands for just the pairs that the typing relation gives the tree in which
+// every faulty part below the top is a hole.
+pub fn most_general_typing()
+    ensures { λ _. ⌜ Most-general ⌝ }
+{}
+
+// The counts of a tree are the numbers of its clashes, overlong nodes and holes.
+pub fn counts_of_nodes()
+    ensures { λ _. ⌜ Counted ⌝ }
 {}
