@@ -18,3 +18,4 @@ pub mod Numbering
 pub mod NodeRule
 pub mod Relation
 pub mod TreeRule
+pub mod Clean

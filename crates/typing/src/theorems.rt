@@ -1,7 +1,7 @@
 // Theorems that the specifications state, each on a function that answers nothing.
 ghost use Rattle.typing.specs.Judgements.{Rule-is-the-rules};
 ghost use Rattle.typing.specs.Solved.{Solves-exactly};
-ghost use Rattle.typing.specs.TreeTypings.{Counted, Most-general};
+ghost use Rattle.typing.specs.TreeTypings.{Closed-and-clean, Counted, Most-general};
 ghost use Rattle.typing.specs.Worked.{Worked};
 
 // Each tree of the table of worked strings alone gives its string.
@@ -28,4 +28,10 @@ pub fn most_general_typing()
 // The counts of a tree are the numbers of its clashes, overlong nodes and holes.
 pub fn counts_of_nodes()
     ensures { λ _. ⌜ Counted ⌝ }
+{}
+
+// The figures of a tree are all zero exactly if it is well typed in the empty context, and its types
+// there are then the ground instances of the form's type.
+pub fn closed_and_clean()
+    ensures { λ _. ⌜ Closed-and-clean ⌝ }
 {}
