@@ -19,3 +19,4 @@ pub mod NodeRule
 pub mod Relation
 pub mod TreeRule
 pub mod Clean
+pub mod GroupReading
