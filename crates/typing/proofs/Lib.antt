@@ -20,3 +20,4 @@ pub mod Relation
 pub mod TreeRule
 pub mod Clean
 pub mod GroupReading
+pub mod TermReading

@@ -20,7 +20,7 @@ use Rattle.typing.specs.declared.head.Head.the-variants.{Num, Fun, Rec, Absent
 use Rattle.typing.proofs.Finding.{find-value, find-root, find-down, every-set, tidy-set}
 
 -- heads with one token are equal
-head-of-token : (h : Head) → headOf (tokenOf h) ≡ Some h
+pub head-of-token : (h : Head) → headOf (tokenOf h) ≡ Some h
 head-of-token Num = refl
 head-of-token Fun = refl
 head-of-token Rec = refl
