@@ -21,3 +21,4 @@ pub mod TreeRule
 pub mod Clean
 pub mod GroupReading
 pub mod TermReading
+pub mod StringReading

@@ -134,7 +134,7 @@ token-small Rec = omega arith
 token-small Absent = omega arith
 token-small Present = omega arith
 
-group-long : (n : ℕ) → 1 ≤ length (group n)
+pub group-long : (n : ℕ) → 1 ≤ length (group n)
 group-long n = elim (ltb n 128) as (λ b. 1 ≤ length (cond b (n ∷ []) ((128 + n % 128) ∷ groups 1 (n / 128)))) [ true ↦ omega arith | false ↦ omega arith ]
 
 -- every variable has a token
@@ -142,11 +142,11 @@ abbrev pub Small : List ℕ → Type 0
 Small [] = Unit {0}
 Small (k ∷ ks) = (5 + k < bound 2) × Small ks
 
-small-parts : (xs ys : List ℕ) → Small (xs ++ ys) → Small xs × Small ys
+pub small-parts : (xs ys : List ℕ) → Small (xs ++ ys) → Small xs × Small ys
 small-parts [] ys s = (tt, s)
 small-parts (x ∷ xs) ys s = let r = small-parts xs ys (s .1) in ((s .0, r .0), r .1)
 
-term-long : (t : Term) → 1 ≤ length (termBytes t)
+pub term-long : (t : Term) → 1 ≤ length (termBytes t)
 term-long (var k) = group-long (5 + k)
 term-long (head h) = group-long (tokenOf h)
 term-long (f · x) = omega (arith, length-append (termBytes f) (termBytes x), term-long f)
