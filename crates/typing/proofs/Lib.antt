@@ -22,3 +22,4 @@ pub mod Clean
 pub mod GroupReading
 pub mod TermReading
 pub mod StringReading
+pub mod StringRule

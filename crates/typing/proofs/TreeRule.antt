@@ -81,7 +81,7 @@ module _ (labels : ℕ) (big : 4 ≤ labels) (s : Symbol) (fit : fits s ≡ true
   node-judged clashed j = λ Γ A gΓ gA h. j Γ A gΓ gA (to-rule Γ A gΓ h)
   node-judged overlong j = (j .0, node-form (j .0) (j .1), j .2)
 
-good-status : (labels : ℕ) (R : Pairs) (q : Status) → Judges labels R q → GoodStatus labels q
+pub good-status : (labels : ℕ) (R : Pairs) (q : Status) → Judges labels R q → GoodStatus labels q
 good-status labels R (formed F) j = record { sound = j .0 .sound; short = j .1 }
 good-status labels R clashed j = tt
 good-status labels R overlong j = tt
@@ -119,6 +119,10 @@ module _ (labels : ℕ) (big : 4 ≤ labels) where
       let beside = forest-matches f (well .3) in
       let j = top s c (well .0) (well .1) (below .0) (below .1) in
       (kept-matches labels s (mended labels c) (mended labels f) (nodeTyping labels (s .kind) (s .argument) (typings labels c)) (typings labels f) (nodeStatus labels (s .kind) (s .argument) (typings labels c)) refl j (beside .0), (record { clashes = omega arith; overlongs = omega arith; holes = omega arith; status = good-status labels (λ Γ A. Has labels Γ (node s (mended labels c)) A) (nodeStatus labels (s .kind) (s .argument) (typings labels c)) j }, beside .1))
+
+-- what well-formed trees alone give is good
+pub good-typings : (labels : ℕ) → 4 ≤ labels → (f : Forest Symbol) → WellFormed f → GoodTypings labels (typings labels f)
+good-typings labels big f well = forest-matches labels big f well .1
 
 pub most-general : Most-general
 most-general labels (node s c) big well =

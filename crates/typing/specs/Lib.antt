@@ -12,4 +12,5 @@ pub mod Parsing
 pub mod Typings
 pub mod Judgements
 pub mod TreeTypings
+pub mod StringRules
 pub mod Worked

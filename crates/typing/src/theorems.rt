@@ -1,6 +1,7 @@
 // Theorems that the specifications state, each on a function that answers nothing.
 ghost use Rattle.typing.specs.Judgements.{Rule-is-the-rules};
 ghost use Rattle.typing.specs.Solved.{Solves-exactly};
+ghost use Rattle.typing.specs.StringRules.{Rule-is-lawful, Rule-of-strings, Strings-spell-typings};
 ghost use Rattle.typing.specs.TreeTypings.{Closed-and-clean, Counted, Most-general};
 ghost use Rattle.typing.specs.Worked.{Worked};
 
@@ -34,4 +35,19 @@ pub fn counts_of_nodes()
 // there are then the ground instances of the form's type.
 pub fn closed_and_clean()
     ensures { λ _. ⌜ Closed-and-clean ⌝ }
+{}
+
+// The rule over strings reads the typings that its child strings spell, and spells that of the node.
+pub fn rule_of_strings()
+    ensures { λ _. ⌜ Rule-of-strings ⌝ }
+{}
+
+// Of lawful strings, as many as the kind has children, the rule gives a lawful string.
+pub fn rule_is_lawful()
+    ensures { λ _. ⌜ Rule-is-lawful ⌝ }
+{}
+
+// The strings that trees alone give spell the typings that they alone give.
+pub fn strings_spell_typings()
+    ensures { λ _. ⌜ Strings-spell-typings ⌝ }
 {}
