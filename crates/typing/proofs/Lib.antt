@@ -23,3 +23,4 @@ pub mod GroupReading
 pub mod TermReading
 pub mod StringReading
 pub mod StringRule
+pub mod TermsRead

@@ -25,7 +25,7 @@ EachSorted V labels [] (x ∷ xs) = ⊥
 EachSorted V labels (s ∷ ss) [] = ⊥
 EachSorted V labels (s ∷ ss) (x ∷ xs) = Sorted V labels [] s x × EachSorted V labels ss xs
 
-applied-sorted : (V : ℕ → Sort → Type 0) (labels : ℕ) (ss : List Sort) (xs : List Term) (N : List Sort) (s : Sort) (t : Term) → Sorted V labels (ss ++ N) s t → EachSorted V labels ss xs → Sorted V labels N s (applied t xs)
+pub applied-sorted : (V : ℕ → Sort → Type 0) (labels : ℕ) (ss : List Sort) (xs : List Term) (N : List Sort) (s : Sort) (t : Term) → Sorted V labels (ss ++ N) s t → EachSorted V labels ss xs → Sorted V labels N s (applied t xs)
 applied-sorted V labels [] [] N s t so each = so
 applied-sorted V labels [] (x ∷ xs) N s t so each = absurd each
 applied-sorted V labels (q ∷ ss) [] N s t so each = absurd each
