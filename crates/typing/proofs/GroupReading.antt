@@ -13,6 +13,7 @@ use Rattle.std.specs.declared.option.Option.the-variants.{Some, None}
 use Rattle.syntax.specs.Groups.{bound, groups}
 use Rattle.syntax.proofs.Groups.{spells-small, spells-large, some-small, some-above}
 use Rattle.typing.specs.Parsing.{andThen, onlyIf, readGroup}
+use Rattle.typing.specs.Strings.{Bytes}
 
 pub then-some : {A B : Type 0} (o : Option A) (f : A → Option B) (b : B) → andThen o f ≡ Some b → (a : A) × (o ≡ Some a) × (f a ≡ Some b)
 then-some None f b e = absurd (let z : _≡_ {A = ℕ} 0 1 = cc in omega (arith, z))
@@ -51,11 +52,6 @@ group-spelled (suc m) n rest fits = by-size (cases-lt n 128) (λ large. group-sp
         let tail = groups m (n / 128) ++ rest in
         let whole : n / 128 * 128 + (128 + n % 128 - 128) ≡ n = omega arith in
         ap (readGroup (suc m)) (spells-large m n rest large) ∙ ap (λ t. cond t (Some (b, tail)) (later b tail)) (le-ltb b 128 (omega arith)) ∙ then-is (readGroup m tail) (n / 128, rest) (λ p. onlyIf (ltb 0 (p .0)) (Some (p .0 * 128 + (b - 128), p .1))) (above large) ∙ if-true (ltb 0 (n / 128)) _ (lt-ltb 0 (n / 128) (omega arith)) ∙ ap (λ x. Some (x, rest)) whole
-
--- bytes, each below 256
-abbrev pub Bytes : List ℕ → Type 0
-Bytes [] = Unit {0}
-Bytes (b ∷ bs) = (b < 256) × Bytes bs
 
 pub bytes-rest : (xs ys : List ℕ) → Bytes (xs ++ ys) → Bytes ys
 bytes-rest [] ys b = b

@@ -24,3 +24,4 @@ pub mod TermReading
 pub mod StringReading
 pub mod StringRule
 pub mod TermsRead
+pub mod StringsRead

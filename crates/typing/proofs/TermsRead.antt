@@ -14,11 +14,11 @@ use Rattle.std.specs.declared.option.Option.the-variants.{Some, None}
 use Rattle.syntax.specs.Groups.{bound, group}
 use Rattle.typing.specs.Heads.{Sort, type, place, resultOf, partsOf, tokenOf, headOf}
 use Rattle.typing.specs.Parsing.{andThen, onlyIf, readGroup, sameSort, meetVariable, Read, readHead, readTerms}
-use Rattle.typing.specs.Strings.{termBytes, Numbered}
+use Rattle.typing.specs.Strings.{termBytes, Numbered, Bytes}
 use Rattle.typing.specs.Terms.{Term, var, head, _·_, applied, variables, Sorted}
 use Rattle.typing.specs.declared.head.Head.{Head}
 use Rattle.typing.specs.declared.head.Head.the-variants.{Num, Fun, Rec, Absent, Present}
-use Rattle.typing.proofs.GroupReading.{then-some, if-some, some-is, Bytes, bytes-rest, group-read}
+use Rattle.typing.proofs.GroupReading.{then-some, if-some, some-is, bytes-rest, group-read}
 use Rattle.typing.proofs.Records.{EachSorted, applied-sorted}
 use Rattle.typing.proofs.TermReading.{termsBytes, termsVariables, applied-bytes, applied-variables, reach, reach-append}
 

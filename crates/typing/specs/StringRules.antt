@@ -10,7 +10,8 @@ use Rattle.syntax.specs.Kinds.{arity}
 use Rattle.syntax.specs.Trees.{Forest}
 use Rattle.syntax.specs.declared.argument.Symbol.{Symbol}
 use Rattle.typing.specs.Judgements.{GoodTypings}
-use Rattle.typing.specs.Strings.{Typing, LawfulString, typingBytes}
+use Rattle.typing.specs.Parsing.{isLawful}
+use Rattle.typing.specs.Strings.{Typing, Bytes, LawfulString, typingBytes}
 use Rattle.typing.specs.Typings.{nodeTyping, typings, rule, strings}
 
 abbrev pub AllLawful : ℕ → List (List ℕ) → Type 0
@@ -31,3 +32,8 @@ Rule-is-lawful =
 abbrev pub Strings-spell-typings : Type 0
 Strings-spell-typings =
     (labels : ℕ) (f : Forest Symbol) → 4 ≤ labels → WellFormed f → strings labels f ≡ map typingBytes (typings labels f)
+
+-- the test of lawfulness says of all bytes whether they are a lawful string
+abbrev pub Test-of-lawfulness : Type 0
+Test-of-lawfulness =
+    (labels : ℕ) (bs : List ℕ) → Bytes bs → (isLawful labels bs ≡ true → LawfulString labels bs) × (LawfulString labels bs → isLawful labels bs ≡ true)

@@ -1,6 +1,6 @@
 -- Typing strings: the bytes of a form, the counts before it, and which forms are good ones.
 -- Assumes nothing.
-use Prim.Native.Nat.{ℕ, _+_, _≤_, max}
+use Prim.Native.Nat.{ℕ, _+_, _<_, _≤_, max}
 use mathlib.Core.Path.{_≡_}
 use mathlib.Core.Bool.{Bool, true, false, _&&_, _||_}
 use mathlib.Core.List.{List, [], _∷_, _++_}
@@ -107,6 +107,11 @@ pub record GoodTyping (labels : ℕ) (T : Typing) : Type 0 where
   pub overlongs : T .overlongs ≤ most
   pub holes : T .holes ≤ most
   pub status : GoodStatus labels (T .status)
+
+-- bytes, each below 256
+abbrev pub Bytes : List ℕ → Type 0
+Bytes [] = Unit {0}
+Bytes (b ∷ bs) = (b < 256) × Bytes bs
 
 -- the lawful strings
 pub record LawfulString (labels : ℕ) (bytes : List ℕ) : Type 0 where

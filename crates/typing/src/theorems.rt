@@ -1,7 +1,7 @@
 // Theorems that the specifications state, each on a function that answers nothing.
 ghost use Rattle.typing.specs.Judgements.{Rule-is-the-rules};
 ghost use Rattle.typing.specs.Solved.{Solves-exactly};
-ghost use Rattle.typing.specs.StringRules.{Rule-is-lawful, Rule-of-strings, Strings-spell-typings};
+ghost use Rattle.typing.specs.StringRules.{Rule-is-lawful, Rule-of-strings, Strings-spell-typings, Test-of-lawfulness};
 ghost use Rattle.typing.specs.TreeTypings.{Closed-and-clean, Counted, Most-general};
 ghost use Rattle.typing.specs.Worked.{Worked};
 
@@ -50,4 +50,9 @@ pub fn rule_is_lawful()
 // The strings that trees alone give spell the typings that they alone give.
 pub fn strings_spell_typings()
     ensures { λ _. ⌜ Strings-spell-typings ⌝ }
+{}
+
+// The executable test of lawfulness is true of just the lawful strings.
+pub fn test_of_lawfulness()
+    ensures { λ _. ⌜ Test-of-lawfulness ⌝ }
 {}
