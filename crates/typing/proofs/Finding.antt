@@ -103,3 +103,18 @@ every-set P g k c all here i = by-place (cases-eq i k) (cases-lt k (length g))
 
 pub tidy-set : (n : ℕ) (g : Graph) (k : ℕ) (c : Cell) → Tidy n g → Proper n k c → Tidy n (set g k c)
 tidy-set n g k c tidy p = record { long = length-set g k c ∙ tidy .long; proper = every-set (Proper n) g k c (tidy .proper) p }
+
+-- following one link, and coming to the end of them
+pub link-step : (n : ℕ) (g : Graph) → Tidy n g → (i j start : ℕ) → i < n → cell g i ≡ link j → find g i ≡ find g start → (j < n) × (find g j ≡ find g start)
+link-step n g tidy i j start inside at same =
+    let less : j < i = subst (Proper n i) at (tidy .proper i) in
+    (omega (arith, less, inside), sym (find-link n g tidy i j at) ∙ same)
+
+no-link : (c : Cell) → ((j : ℕ) → c ≡ link j → ⊥) → NotLink c
+no-link free never = tt
+no-link (link j) never = never j refl
+no-link (atom h) never = tt
+no-link (apply a b) never = tt
+
+pub link-ends : (g : Graph) (i start : ℕ) → ((j : ℕ) → cell g i ≡ link j → ⊥) → find g i ≡ find g start → i ≡ find g start
+link-ends g i start never same = sym (find-stays g i (no-link (cell g i) never)) ∙ same

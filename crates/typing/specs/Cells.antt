@@ -10,12 +10,8 @@ use Rattle.std.specs.declared.option.Option.the-variants.{Some, None}
 use Rattle.typing.specs.Heads.{tokenOf}
 use Rattle.typing.specs.Terms.{Term, var, head, _·_}
 use Rattle.typing.specs.declared.head.Head.{Head}
-
-pub data Cell : Type 0 where
-  free : Cell
-  link : ℕ → Cell
-  atom : Head → Cell
-  apply : ℕ → ℕ → Cell
+pub use Rattle.typing.specs.declared.cell.Cell.{Cell}
+pub use Rattle.typing.specs.declared.cell.Cell.the-variants.{Free as free, Link as link, Atom as atom, Apply as apply}
 
 abbrev pub Graph : Type 0
 Graph = List Cell

@@ -1,3 +1,4 @@
 // The typing reading: types, forms, and the most general typing of a rule.
+pub mod cell;
 pub mod head;
 pub mod theorems;
