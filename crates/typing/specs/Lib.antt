@@ -3,6 +3,7 @@ pub mod Terms
 pub mod Forms
 pub mod Rules
 pub mod Cells
+pub mod Meetings
 pub mod Solutions
 pub mod Solve
 pub mod Solved
