@@ -273,3 +273,22 @@ live-length (apply a b ∷ g) = omega (arith, live-length g)
 
 pub unify-ran : (n : ℕ) (g : Graph) (ps : Pairs) → Tidy n g → Within n ps → Ran n g ps (unify g ps)
 unify-ran n g ps tidy within = run-ran (3 * length g + length ps + 1) n g ps tidy within (omega (arith, live-length g))
+
+-- More fuel than the work that is left changes nothing, so a run goes on where one step leaves it.
+after-any : (n : ℕ) (g : Graph) (ps : Pairs) (o : Outcome) → Sound n g ps o → (on on′ : Graph → Pairs → Option Graph) → ((g′ : Graph) (ps′ : Pairs) → Kept n g ps g′ ps′ → on g′ ps′ ≡ on′ g′ ps′) → after o on ≡ after o on′
+after-any n g ps clash sound on on′ same = refl
+after-any n g ps (solved g′) sound on on′ same = refl
+after-any n g ps (more g′ ps′) kept on on′ same = same g′ ps′ kept
+
+run-any : (n f f′ : ℕ) (g : Graph) (ps : Pairs) → Tidy n g → Within n ps → 3 * live g + length ps < f → 3 * live g + length ps < f′ → run f g ps ≡ run f′ g ps
+run-any n zero f′ g ps tidy within less less′ = absurd (omega arith)
+run-any n (suc f) zero g ps tidy within less less′ = absurd (omega arith)
+run-any n (suc f) (suc f′) g ps tidy within less less′ =
+    after-any n g ps (step g ps) (step-sound n g ps tidy within) (run f) (run f′) (λ g′ ps′ kept. run-any n f f′ g′ ps′ (kept .tidy) (kept .within) (omega (arith, kept .less)) (omega (arith, kept .less)))
+
+-- one step of a run
+pub unify-step : (n : ℕ) (g : Graph) (ps : Pairs) → Tidy n g → Within n ps → unify g ps ≡ after (step g ps) unify
+unify-step n g ps tidy within =
+    let fuel = 3 * length g + length ps in
+    let le = live-length g in
+    run-any n (fuel + 1) (suc fuel) g ps tidy within (omega (arith, le)) (omega (arith, le)) ∙ after-any n g ps (step g ps) (step-sound n g ps tidy within) (run fuel) unify (λ g′ ps′ kept. run-any n fuel (3 * length g′ + length ps′ + 1) g′ ps′ (kept .tidy) (kept .within) (omega (arith, kept .less, le)) (omega (arith, live-length g′)))
