@@ -18,7 +18,7 @@ pub enum Cell {
 }
 
 // The cell that a chain of links ends at.
-fn root(cells: &[Cell], start: usize) -> usize
+pub(crate) fn root(cells: &[Cell], start: usize) -> usize
     requires within { ⌜ start < length (now cells) ⌝ }
     requires tidy { ⌜ Tidy (length (now cells)) (now cells) ⌝ }
     ensures { λ r. ⌜ r ≡ find (now (cells .entry)) start ⌝ }

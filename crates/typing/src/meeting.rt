@@ -2,11 +2,14 @@
 ghost use mathlib.Core.Path.{_≡_};
 ghost use Prim.Native.Nat.{_<_};
 ghost use lib.ListN.{length};
-ghost use Rattle.typing.specs.Cells.{cell, meet};
-ghost use Rattle.typing.specs.Meetings.{after, metOf};
+ghost use mathlib.Core.List.{_∷_};
+ghost use Rattle.typing.specs.Cells.{Pairs, cell, meet, step};
+ghost use Rattle.typing.specs.Meetings.{after, metOf, stepped};
+ghost use Rattle.typing.specs.Solutions.{Tidy};
 use crate::cell::Cell;
 use crate::cell::CellDebug;
 use crate::cell::CellPartialEq;
+use crate::cell::root;
 
 // No term is both; or one cell, with no further work; or one cell whose parts have to be made equal too.
 #[derive(Clone, Copy, Debug, PartialEq, Eq)]
@@ -47,4 +50,19 @@ fn unite(cells: &mut [Cell], low: usize, high: usize) -> Meeting
         }
     }
     meeting
+}
+
+// Makes two cells equal, or answers nothing if they are one already.
+fn equate(cells: &mut [Cell], a: usize, b: usize) -> Option<Meeting>
+    requires a_within { ⌜ a < length (now cells) ⌝ }
+    requires b_within { ⌜ b < length (now cells) ⌝ }
+    requires tidy { ⌜ Tidy (length (now cells)) (now cells) ⌝ }
+    ensures { λ r. ⌜ ((ps : Pairs) → step (now (cells .entry)) ((a, b) ∷ ps) ≡ stepped r (now (cells .exit)) ps) ⌝ }
+{
+    let x = root(cells, a);
+    let y = root(cells, b);
+    if x == y {
+        return None;
+    }
+    Some(unite(cells, x.min(y), x.max(y)))
 }
