@@ -1,0 +1,17 @@
+pub mod Heads
+pub mod Terms
+pub mod Forms
+pub mod Rules
+pub mod Cells
+pub mod Meetings
+pub mod Solutions
+pub mod Solve
+pub mod Solved
+pub mod Constraints
+pub mod Strings
+pub mod Parsing
+pub mod Typings
+pub mod Judgements
+pub mod TreeTypings
+pub mod StringRules
+pub mod Worked

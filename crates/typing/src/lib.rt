@@ -1,0 +1,5 @@
+// The typing reading: types, forms, and the most general typing of a rule.
+pub mod cell;
+pub mod head;
+pub mod meeting;
+pub mod theorems;
