@@ -9,7 +9,7 @@ use lib.ListN.{length, getD}
 use Rattle.std.specs.declared.option.Option.{Option}
 use Rattle.std.specs.declared.option.Option.the-variants.{Some, None}
 use Rattle.syntax.specs.Arguments.{fits}
-use Rattle.syntax.specs.Files.{WellFormed}
+use Rattle.syntax.specs.Rules.{WellFormed}
 use Rattle.syntax.specs.Kinds.{arity}
 use Rattle.syntax.specs.Trees.{Forest, none, grow, Tree, node, count, child, alone}
 use Rattle.syntax.specs.declared.argument.Argument.{Argument}

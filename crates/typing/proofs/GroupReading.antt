@@ -11,7 +11,7 @@ use Rattle.std.proofs.shelf.Tests.{lt-ltb, le-ltb, ltb-true, ltb-false, cases-l
 use Rattle.std.specs.declared.option.Option.{Option}
 use Rattle.std.specs.declared.option.Option.the-variants.{Some, None}
 use Rattle.layout.specs.Groups.{bound, groups}
-use Rattle.syntax.proofs.Groups.{spells-small, spells-large, some-small, some-above}
+use Rattle.layout.proofs.Groups.{spells-small, spells-large, some-small, some-above}
 use Rattle.typing.specs.Parsing.{andThen, onlyIf, readGroup}
 use Rattle.typing.specs.Strings.{Bytes}
 

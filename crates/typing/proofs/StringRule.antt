@@ -6,7 +6,7 @@ use mathlib.Core.List.{List, [], _∷_, map}
 use native.Mathlib.Omega.{arith}
 use lib.ListN.{length, length-map}
 use Rattle.syntax.specs.Arguments.{fits}
-use Rattle.syntax.specs.Files.{WellFormed}
+use Rattle.syntax.specs.Rules.{WellFormed}
 use Rattle.syntax.specs.Kinds.{arity}
 use Rattle.syntax.specs.Trees.{Forest, none, grow}
 use Rattle.syntax.specs.declared.argument.Symbol.{Symbol}

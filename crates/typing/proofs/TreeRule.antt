@@ -8,7 +8,7 @@ use native.Mathlib.Omega.{arith}
 use lib.ListN.{length, getD}
 use Rattle.std.specs.declared.option.Option.the-variants.{Some, None}
 use Rattle.syntax.specs.Arguments.{fits}
-use Rattle.syntax.specs.Files.{WellFormed}
+use Rattle.syntax.specs.Rules.{WellFormed}
 use Rattle.syntax.specs.Kinds.{arity}
 use Rattle.syntax.specs.Trees.{Forest, none, grow, Tree, node, count}
 use Rattle.syntax.specs.declared.argument.Argument.the-variants as argument

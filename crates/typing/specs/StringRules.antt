@@ -5,7 +5,7 @@ use mathlib.Core.Bool.{true}
 use mathlib.Core.List.{List, [], _∷_, map}
 use lib.ListN.{length}
 use Rattle.syntax.specs.Arguments.{fits}
-use Rattle.syntax.specs.Files.{WellFormed}
+use Rattle.syntax.specs.Rules.{WellFormed}
 use Rattle.syntax.specs.Kinds.{arity}
 use Rattle.syntax.specs.Trees.{Forest}
 use Rattle.syntax.specs.declared.argument.Symbol.{Symbol}

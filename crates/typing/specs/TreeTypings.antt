@@ -2,7 +2,7 @@
 use Prim.Native.Nat.{ℕ, _+_, _≤_, min}
 use mathlib.Core.Path.{_≡_}
 use mathlib.Core.List.{[]}
-use Rattle.syntax.specs.Files.{Rule as WellFormedTree}
+use Rattle.syntax.specs.Rules.{Rule as WellFormedTree}
 use Rattle.syntax.specs.Trees.{Forest, none, grow, Tree, node, alone}
 use Rattle.syntax.specs.declared.argument.Argument.the-variants as argument
 use Rattle.syntax.specs.declared.argument.Symbol.{Symbol}
