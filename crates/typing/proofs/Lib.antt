@@ -25,3 +25,4 @@ pub mod StringReading
 pub mod StringRule
 pub mod TermsRead
 pub mod StringsRead
+pub mod Running

@@ -15,3 +15,4 @@ pub mod Judgements
 pub mod TreeTypings
 pub mod StringRules
 pub mod Worked
+pub mod Worklists

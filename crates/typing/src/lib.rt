@@ -3,3 +3,4 @@ pub mod cell;
 pub mod head;
 pub mod meeting;
 pub mod theorems;
+mod worklist;

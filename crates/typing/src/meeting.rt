@@ -53,7 +53,7 @@ fn unite(cells: &mut [Cell], low: usize, high: usize) -> Meeting
 }
 
 // Makes two cells equal, or answers nothing if they are one already.
-fn equate(cells: &mut [Cell], a: usize, b: usize) -> Option<Meeting>
+pub(crate) fn equate(cells: &mut [Cell], a: usize, b: usize) -> Option<Meeting>
     requires a_within { ⌜ a < length (now cells) ⌝ }
     requires b_within { ⌜ b < length (now cells) ⌝ }
     requires tidy { ⌜ Tidy (length (now cells)) (now cells) ⌝ }
