@@ -26,3 +26,4 @@ pub mod StringRule
 pub mod TermsRead
 pub mod StringsRead
 pub mod Running
+pub mod Walking

@@ -12,13 +12,8 @@ use Rattle.std.proofs.shelf.Tests.{cases-lt, cases-eq, and-from, and-parts, bot
 use Rattle.typing.specs.Cells.{Cell, free, link, atom, apply, Graph, cell, find, below, grounded, every, acyclic, unroll, readback, termOf}
 use Rattle.typing.specs.Solutions.{Fits, Solves, Proper, Tidy, NotLink}
 use Rattle.typing.specs.Terms.{Term, var, head, _·_, fill}
+use Rattle.typing.specs.Walks.{size}
 use Rattle.typing.proofs.Finding.{find-value, find-root, find-down, find-stays, find-link}
-
--- how many heads a term has
-abbrev pub size : Term → ℕ
-size (var k) = 1
-size (head h) = 1
-size (f · x) = size f + size x
 
 pub size-some : (t : Term) → 1 ≤ size t
 size-some (var k) = omega arith

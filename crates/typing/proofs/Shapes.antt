@@ -17,7 +17,8 @@ use Rattle.typing.specs.Solutions.{Fits, Solves, Equal, Proper, Tidy, Within, 
 use Rattle.typing.specs.Terms.{Term, var, head, _·_, Sorted}
 use Rattle.typing.proofs.Finding.{find-value, find-root, find-down, every-set}
 use Rattle.typing.proofs.Merging.{Kept, Sound, step-sound, ordered}
-use Rattle.typing.proofs.Occurs.{size, size-some, every-at}
+use Rattle.typing.specs.Walks.{size}
+use Rattle.typing.proofs.Occurs.{size-some, every-at}
 
 infix 40 _⇒_
 -- the sorts of the parts that a term still takes, and the sort of what it then is

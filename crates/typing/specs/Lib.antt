@@ -16,3 +16,4 @@ pub mod TreeTypings
 pub mod StringRules
 pub mod Worked
 pub mod Worklists
+pub mod Walks

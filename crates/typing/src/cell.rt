@@ -21,7 +21,8 @@ pub enum Cell {
 pub(crate) fn root(cells: &[Cell], start: usize) -> usize
     requires within { ⌜ start < length (now cells) ⌝ }
     requires tidy { ⌜ Tidy (length (now cells)) (now cells) ⌝ }
-    ensures { λ r. ⌜ r ≡ find (now (cells .entry)) start ⌝ }
+    ensures value { λ r. ⌜ r ≡ find (now (cells .entry)) start ⌝ }
+    ensures bound { λ r. ⌜ r < length (now (cells .entry)) ⌝ }
 {
     let mut i = start;
     while let Cell::Link(j) = cells[i] {
