@@ -1,6 +1,6 @@
 -- A walk down a graph of cells: what it means where it comes back to an open cell, and what it leaves
 -- where it does not. Assumes nothing.
-use mathlib.Core.Path.{_≡_, refl, sym, ap, subst, _∙_}
+use mathlib.Core.Path.{_≡_, refl, sym, ap, ap₂, subst, _∙_}
 use mathlib.Core.Logic.{_⊎_, inl, inr, _≢_}
 use mathlib.Core.Bool.{Bool, true, false, cond}
 use mathlib.Core.List.{List, [], _∷_}
@@ -8,16 +8,16 @@ use Prim.Native.Nat.{ℕ, zero, suc, _+_, _<_, _≤_, max}
 use native.Mathlib.Omega.{arith}
 use lib.Dec.{eqb}
 use lib.ListN.{length, getD, set}
-use Rattle.std.proofs.shelf.Lists.{getD-set-same, getD-set-other, length-set}
-use Rattle.std.proofs.shelf.Tests.{cases-eq, eq-eqb, ne-eqb}
-use Rattle.typing.specs.Cells.{Cell, free, link, atom, apply, Graph, cell, find, readback, unroll}
+use Rattle.std.proofs.shelf.Lists.{getD-set-same, getD-past, getD-set-other, length-set}
+use Rattle.std.proofs.shelf.Tests.{cases-bool, cases-eq, cases-lt, eq-eqb, ne-eqb}
+use Rattle.typing.specs.Cells.{Cell, free, link, atom, apply, Graph, cell, find, readback, unroll, acyclic, termOf}
 use Rattle.typing.specs.Solutions.{Fits, Solves, Tidy, NotLink}
-use Rattle.typing.specs.Terms.{Term, var, head, _·_}
-use Rattle.typing.specs.Walks.{size, mark, isUnseen, unseen, Under, Sinks, Ranks, PartsRank, Ranked, Walked}
+use Rattle.typing.specs.Terms.{Term, var, head, _·_, fill}
+use Rattle.typing.specs.Walks.{size, mark, isUnseen, unseen, Under, Sinks, Ranks, PartsRank, Ranked, Walked, Fresh}
 use Rattle.typing.specs.declared.cycle.Mark.{Mark}
 use Rattle.typing.specs.declared.cycle.Mark.the-variants.{Unseen, Open, Done}
 use Rattle.typing.proofs.Finding.{find-value, find-root, find-stays, find-link}
-use Rattle.typing.proofs.Occurs.{size-some}
+use Rattle.typing.proofs.Occurs.{acyclic-holds, size-some, term-solves}
 
 -- a mark that is written, and the others
 module _ (ms : List Mark) (r : ℕ) (m : Mark) (within : r < length ms) where
@@ -115,7 +115,7 @@ apart ms r o m k at-r at-o ne e = ne (sym at-r ∙ ap (mark ms) (sym e) ∙ at-o
 
 -- ranks of parts go over to other marks and ranks in which they are the same
 parts-over : (g : Graph) (ms ms′ : List Mark) (rank rank′ : ℕ → ℕ) (r r′ : ℕ) (c : Cell) → r ≤ r′
-  → ((p : ℕ) → mark ms p ≡ Done → (mark ms′ p ≡ Done) × (rank′ p ≡ rank p)) → PartsRank g ms rank r c → PartsRank g ms′ rank′ r′ c
+    → ((p : ℕ) → mark ms p ≡ Done → (mark ms′ p ≡ Done) × (rank′ p ≡ rank p)) → PartsRank g ms rank r c → PartsRank g ms′ rank′ r′ c
 parts-over g ms ms′ rank rank′ r r′ free le over h = tt
 parts-over g ms ms′ rank rank′ r r′ (link j) le over h = tt
 parts-over g ms ms′ rank rank′ r r′ (atom k) le over h = tt
@@ -125,7 +125,7 @@ parts-over g ms ms′ rank rank′ r r′ (apply a b) le over (x, y) =
     (record { done = p .0; lower = omega (arith, x .lower, p .1) }, record { done = q .0; lower = omega (arith, y .lower, q .1) })
 
 parts-top : (g : Graph) (ms ms′ : List Mark) (rank rank′ : ℕ → ℕ) (c : Cell)
-  → ((p : ℕ) → mark ms p ≡ Done → (mark ms′ p ≡ Done) × (rank′ p ≡ rank p)) → PartsDone g ms c → PartsRank g ms′ rank′ (topRank g rank c) c
+    → ((p : ℕ) → mark ms p ≡ Done → (mark ms′ p ≡ Done) × (rank′ p ≡ rank p)) → PartsDone g ms c → PartsRank g ms′ rank′ (topRank g rank c) c
 unfolding topRank
 parts-top g ms ms′ rank rank′ free over h = tt
 parts-top g ms ms′ rank rank′ (link j) over h = tt
@@ -146,6 +146,7 @@ module _ (g : Graph) (ms : List Mark) (r : ℕ) (within : r < length ms) (new : 
     where
       over : (p : ℕ) → mark ms p ≡ Done → (mark (set ms r Open) p ≡ Done) × (rank p ≡ rank p)
       over p is = (others ms r Open within p (apart ms r p Unseen Done new is unseen≢done) ∙ is, refl)
+
       at : (o : ℕ) → mark (set ms r Open) o ≡ Done → (o ≡ r) ⊎ (o ≡ r → ⊥) → PartsRank g (set ms r Open) rank (rank o) (cell g o)
       at o is (inl e) = absurd (open≢done (sym (marked ms r Open within) ∙ ap (mark (set ms r Open)) (sym e) ∙ is))
       at o is (inr ne) = parts-over g ms (set ms r Open) rank rank (rank o) (rank o) (cell g o) (omega arith) over (each o (sym (others ms r Open within o ne) ∙ is))
@@ -157,12 +158,16 @@ module _ (g : Graph) (ms : List Mark) (r : ℕ) (within : r < length ms) (is-ope
     where
       rank′ : ℕ → ℕ
       rank′ o = cond (eqb o r) (topRank g rank (cell g r)) (rank o)
+
       here : rank′ r ≡ topRank g rank (cell g r)
       here = rw (eq-eqb r r refl)
+
       there : (o : ℕ) → (o ≡ r → ⊥) → rank′ o ≡ rank o
       there o ne = rw (ne-eqb o r ne)
+
       over : (p : ℕ) → mark ms p ≡ Done → (mark (set ms r Done) p ≡ Done) × (rank′ p ≡ rank p)
       over p is = let ne = apart ms r p Open Done is-open is open≢done in (others ms r Done within p ne ∙ is, there p ne)
+
       at : (o : ℕ) → mark (set ms r Done) o ≡ Done → (o ≡ r) ⊎ (o ≡ r → ⊥) → PartsRank g (set ms r Done) rank′ (rank′ o) (cell g o)
       at o is (inl e) = subst (λ x. PartsRank g (set ms r Done) rank′ (rank′ x) (cell g x)) (sym e) (subst (λ x. PartsRank g (set ms r Done) rank′ x (cell g r)) (sym here) (parts-top g ms (set ms r Done) rank rank′ (cell g r) over parts))
       at o is (inr ne) = subst (λ x. PartsRank g (set ms r Done) rank′ x (cell g o)) (sym (there o ne)) (parts-over g ms (set ms r Done) rank rank′ (rank o) (rank o) (cell g o) (omega arith) over (each o (sym (others ms r Done within o ne) ∙ is)))
@@ -220,3 +225,84 @@ module _ (g : Graph) (ms : List Mark) (i r : ℕ) (root : r ≡ find g i) where
       no-parts (link j) none = tt
       no-parts (atom h) none = tt
       no-parts (apply a b) none = absurd (none a b refl)
+
+-- only cells of the graph have parts
+cell-inside : (g : Graph) (i a b : ℕ) → cell g i ≡ apply a b → i < length g
+cell-inside g i a b at = by-place (cases-lt i (length g))
+  where
+    by-place : (i < length g) ⊎ (length g ≤ i) → i < length g
+    by-place (inl lt) = lt
+    by-place (inr le) = absurd (let wrong : apply a b ≡ free = sym at ∙ getD-past g i free le in let z : _≡_ {A = ℕ} 0 1 = cc in omega (arith, z))
+
+-- the terms of ranked cells: more fuel than a cell's rank changes nothing
+unroll-any : (g : Graph) (ms : List Mark) (rank : ℕ → ℕ) (r : ℕ) (c : Cell) (on on′ : ℕ → Term) → ((j : ℕ) → Ranks g ms rank r j → on j ≡ on′ j) → PartsRank g ms rank r c → (k : ℕ) → unroll c k on ≡ unroll c k on′
+unroll-any g ms rank r free on on′ same h k = refl
+unroll-any g ms rank r (link j) on on′ same h k = refl
+unroll-any g ms rank r (atom x) on on′ same h k = refl
+unroll-any g ms rank r (apply a b) on on′ same (p, q) k = ap₂ _·_ (same a p) (same b q)
+
+module _ (g : Graph) (ms : List Mark) (rank : ℕ → ℕ) (each : (o : ℕ) → mark ms o ≡ Done → PartsRank g ms rank (rank o) (cell g o)) where
+  readback-any : (f f′ i : ℕ) → mark ms (find g i) ≡ Done → rank (find g i) < f → rank (find g i) < f′ → readback f g i ≡ readback f′ g i
+  readback-any zero f′ i done less less′ = absurd (omega arith)
+  readback-any (suc f) zero i done less less′ = absurd (omega arith)
+  readback-any (suc f) (suc f′) i done less less′ =
+      let r = find g i in
+      unroll-any g ms rank (rank r) (cell g r) (readback f g) (readback f′ g) (λ j p. readback-any f f′ j (p .done) (omega (arith, p .lower)) (omega (arith, p .lower))) (each r done) r
+
+  value : ℕ → Term
+  value i = readback (suc (rank (find g i))) g i
+
+  module _ (n : ℕ) (tidy : Tidy n g) (all : (i : ℕ) → i < length g → mark ms (find g i) ≡ Done) where
+    fits : (i : ℕ) (c : Cell) → cell g i ≡ c → Fits value i c
+    unfolding value
+    fits i free at = tt
+    fits i (link j) at = ap (λ r. unroll (cell g r) r (readback (rank r) g)) (find-link n g tidy i j at)
+    fits i (atom h) at =
+        ap (λ r. unroll (cell g r) r (readback (rank r) g)) (find-stays g i (subst NotLink (sym at) tt)) ∙ ap (λ c. unroll c i (readback (rank i) g)) at
+    fits i (apply a b) at =
+        let stays = find-stays g i (subst NotLink (sym at) tt) in
+        let done = ap (mark ms) (sym stays) ∙ all i (cell-inside g i a b at) in
+        let parts = subst (PartsRank g ms rank (rank i)) at (each i done) in
+        ap (λ r. unroll (cell g r) r (readback (rank r) g)) stays ∙ ap (λ c. unroll c i (readback (rank i) g)) at
+        ∙ ap₂ _·_ (readback-any (rank i) (suc (rank (find g a))) a (parts .0 .done) (parts .0 .lower) (omega arith)) (readback-any (rank i) (suc (rank (find g b))) b (parts .1 .done) (parts .1 .lower) (omega arith))
+
+-- where every cell is done, no cell is reached from its own parts
+pub all-walked : (n : ℕ) (g : Graph) (ms : List Mark) → Tidy n g → Ranked g ms → ((i : ℕ) → i < length g → mark ms (find g i) ≡ Done) → acyclic g ≡ true
+all-walked n g ms tidy (rank, each) all = acyclic-holds n g tidy (value g ms rank each) (λ i. fits g ms rank each n tidy all i (cell g i) refl)
+
+-- where no cell is open, a walk that comes back says that some cell is
+pub come-back : (n : ℕ) (g : Graph) (ms : List Mark) (i : ℕ) → Tidy n g → ((o : ℕ) → mark ms o ≡ Open → ⊥) → Sinks g ms i → acyclic g ≡ false
+come-back n g ms i tidy closed sinks = by-test (cases-bool (acyclic g))
+  where
+    by-test : (acyclic g ≡ true) ⊎ (acyclic g ≡ false) → acyclic g ≡ false
+    by-test (inl passes) = absurd (sinks (λ j. fill var (termOf g j)) (term-solves n g tidy passes var) (λ o is. absurd (closed o is)))
+    by-test (inr fails) = fails
+
+-- the walks from the first cells are done
+pub record Sofar (g : Graph) (ms : List Mark) (i : ℕ) : Type 0 where
+  pub long : length ms ≡ length g
+  pub closed : (o : ℕ) → mark ms o ≡ Open → ⊥
+  pub ranked : Ranked g ms
+  pub done : (j : ℕ) → j < i → mark ms (find g j) ≡ Done
+
+pub sofar-none : (g : Graph) (ms : List Mark) → length ms ≡ length g → Fresh ms → Sofar g ms 0
+sofar-none g ms long fresh =
+    record {
+      long = long;
+      closed = λ o is. unseen≢open (sym (fresh o) ∙ is);
+      ranked = ((λ o. 0), λ o is. absurd (unseen≢done (sym (fresh o) ∙ is)));
+      done = λ j less. absurd (omega arith);
+    }
+
+pub sofar-more : (g : Graph) (ms ms′ : List Mark) (i : ℕ) → length ms′ ≡ length ms → Sofar g ms i → Walked g ms i ms′ → Sofar g ms′ (i + 1)
+sofar-more g ms ms′ i same sofar walked =
+    record {
+      long = same ∙ sofar .long;
+      closed = λ o is. sofar .closed o (walked .opened o is);
+      ranked = walked .ranked (sofar .ranked);
+      done = λ j less. by-place j less (cases-eq j i);
+    }
+  where
+    by-place : (j : ℕ) → j < i + 1 → (j ≡ i) ⊎ (j ≡ i → ⊥) → mark ms′ (find g j) ≡ Done
+    by-place j less (inl e) = ap (λ x. mark ms′ (find g x)) e ∙ walked .reached
+    by-place j less (inr ne) = walked .still-done (find g j) (sofar .done j (omega (arith, ne)))

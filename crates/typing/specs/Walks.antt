@@ -58,3 +58,7 @@ pub record Walked (g : Graph) (ms : List Mark) (i : ℕ) (ms′ : List Mark) : T
   pub still-open : (o : ℕ) → mark ms o ≡ Open → mark ms′ o ≡ Open
   pub still-done : (o : ℕ) → mark ms o ≡ Done → mark ms′ o ≡ Done
   pub ranked : Ranked g ms → Ranked g ms′
+
+-- no cell is entered yet
+abbrev pub Fresh : List Mark → Type 0
+Fresh ms = (o : ℕ) → mark ms o ≡ Unseen

@@ -5,7 +5,7 @@ ghost use Prim.Native.Nat.{_<_};
 ghost use lib.ListN.{length};
 ghost use Rattle.typing.specs.Cells.{acyclic};
 ghost use Rattle.typing.specs.Solutions.{Tidy};
-ghost use Rattle.typing.specs.Walks.{Sinks, Walked};
+ghost use Rattle.typing.specs.Walks.{Fresh, Sinks, Walked};
 use crate::cell::Cell;
 use crate::cell::root;
 
@@ -42,5 +42,20 @@ fn descend(cells: &[Cell], marks: &mut [Mark], start: usize) -> bool
         }
     }
     marks[top] = Mark::Done;
+    true
+}
+
+// Whether no cell is reached from its own parts, where no cell is marked yet.
+pub(crate) fn is_acyclic(cells: &[Cell], marks: &mut [Mark]) -> bool
+    requires tidy { ⌜ Tidy (length (now cells)) (now cells) ⌝ }
+    requires long { ⌜ length (now marks) ≡ length (now cells) ⌝ }
+    requires fresh { ⌜ Fresh (now marks) ⌝ }
+    ensures { λ r. ⌜ r ≡ acyclic (now (cells .entry)) ⌝ }
+{
+    for i in 0..cells.len() {
+        if !descend(cells, marks, i) {
+            return false;
+        }
+    }
     true
 }

@@ -63,10 +63,10 @@ returns t c =
     record {
       refuses = λ e. absurd (true≢false e);
       passes = λ e. elim (c .match-cell .came) [
-        in-Apply·else-not-descend·else-not-descend-2 w ↦
-          subst (λ m. Walked g ms (c .args .start) (set m r Done)) (sym (w .marks-is))
-          (parts-walked g ms _ r root within _ refl _ _ (w .in-Apply .is) _ _ (omega (arith, w .descend .kept .marks, w .descend-in-Apply .kept .marks, length-set ms r Open)) (c .in-Unseen .is) (w .if-not-descend .ensures tt .passes refl) (w .if-not-descend-2 .ensures tt .passes refl))
-      | in-rest w ↦
-          subst (λ m. Walked g ms (c .args .start) (set m r Done)) (sym (w .marks-is)) (leaf-walked g ms _ r root within (c .in-Unseen .is) (w .in-rest .not-Apply))
+        | in-Apply·else-not-descend·else-not-descend-2 w ↦
+            subst (λ m. Walked g ms (c .args .start) (set m r Done)) (sym (w .marks-is))
+            (parts-walked g ms _ r root within _ refl _ _ (w .in-Apply .is) _ _ (omega (arith, w .descend .kept .marks, w .descend-in-Apply .kept .marks, length-set ms r Open)) (c .in-Unseen .is) (w .if-not-descend .ensures tt .passes refl) (w .if-not-descend-2 .ensures tt .passes refl))
+        | in-rest w ↦
+            subst (λ m. Walked g ms (c .args .start) (set m r Done)) (sym (w .marks-is)) (leaf-walked g ms _ r root within (c .in-Unseen .is) (w .in-rest .not-Apply))
       ];
     }
