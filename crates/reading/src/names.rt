@@ -34,6 +34,13 @@ impl Names {
         ensures names { λ _. ⌜ GivesFreeNames ⌝ }
         ensures made { λ r. ⌜ Cases r (λ x. (x .meter ≡ start) × (start ≤ meterEnd)) (λ fault. (fault ≡ Misfit) × (meterEnd < start)) ⌝ }
     {
+        Names::started(start)
+    }
+
+    // The same, with nothing said of its meaning.
+    fn started(start: u32) -> Result<Names, Fault>
+        ensures { λ r. ⌜ Cases r (λ x. (x .meter ≡ start) × (start ≤ meterEnd)) (λ fault. (fault ≡ Misfit) × (meterEnd < start)) ⌝ }
+    {
         if start > MAX_METER {
             return Err(Fault::Misfit);
         }

@@ -1,6 +1,7 @@
 // Two questions to one reading, the second over the answer to the first: what is known of any
 // reading is enough to say what comes of them.
-ghost use Rattle.reading.specs.Readings.{texts};
+ghost use mathlib.Core.List.{[], _∷_};
+ghost use Rattle.reading.specs.Readings.{Asked, texts};
 ghost use Rattle.reading.specs.Twice.{Twice};
 use crate::Reading;
 use syntax::argument::Symbol;
@@ -19,5 +20,17 @@ pub fn ask_twice<R: Reading>(
     ensures { λ r. ⌜ Twice means metered (now (reading .entry)) (now (reading .exit)) lower (texts (now (parts .entry))) upper (now (work .entry)) (now (work .exit)) (now (out .entry)) (now (out .exit)) r ⌝ }
 {
     let n = reading.ask(lower.kind, lower.argument, parts, work)?;
-    reading.ask(upper.kind, upper.argument, &[&work[0..n]], out)
+    ask_over(reading, upper, &work[0..n], out)
+}
+
+// Asks for a node that has one child.
+fn ask_over<R: Reading>(
+    reading: &mut R,
+    upper: Symbol,
+    text: &[u8],
+    out: &mut [u8],
+) -> Result<usize, Fault>
+    ensures { λ r. ⌜ Asked means metered (now (reading .entry)) (now (reading .exit)) upper (now (text .entry) ∷ []) (now (out .entry)) (now (out .exit)) r ⌝ }
+{
+    reading.ask(upper.kind, upper.argument, &[text], out)
 }
