@@ -52,9 +52,6 @@ stacked-push n stack f a room =
 
 -- One turn: the pair on top is taken off, and its cells are made equal.
 module _ (start : Graph) (pairs : Pairs) (g : Graph) (stack : Pairs) (n : ℕ) (going : Going start pairs g stack (suc n)) (g′ : Graph) where
-  rest : Pairs
-  rest = stacked n stack
-
   -- a step that goes on
   module _ (ps : Pairs) (is : step g (stacked (suc n) stack) ≡ more g′ ps) where
     kept : Kept (length g) g (stacked (suc n) stack) g′ ps
@@ -101,6 +98,3 @@ module _ (start : Graph) (pairs : Pairs) (g : Graph) (stack : Pairs) (n : ℕ) (
 pub finished : (start : Graph) (pairs : Pairs) (g : Graph) (stack : Pairs) (left : ℕ) → left ≤ 0 → Going start pairs g stack left → Some g ≡ unify start pairs
 finished start pairs g stack zero over going = sym (unify-step (length g) g [] (going .tidy) tt) ∙ going .same
 finished start pairs g stack (suc left) over going = absurd (omega arith)
-
-pub begun : (g : Graph) (stack : Pairs) (count : ℕ) → Tidy (length g) g → Within (length g) (stacked count stack) → live g + count ≤ length stack → Going g (stacked count stack) g stack count
-begun g stack count tidy within room = record { long = refl; tidy = tidy; within = within; room = room; same = refl }

@@ -137,9 +137,6 @@ parts-top g ms ms′ rank rank′ (apply a b) over (x, y) =
 
 -- a cell is entered
 module _ (g : Graph) (ms : List Mark) (r : ℕ) (within : r < length ms) (new : mark ms r ≡ Unseen) where
-  entered : List Mark
-  entered = set ms r Open
-
   enter-ranked : Ranked g ms → Ranked g (set ms r Open)
   enter-ranked (rank, each) =
       (rank, λ o is. at o is (cases-eq o r))

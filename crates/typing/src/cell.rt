@@ -5,11 +5,9 @@ ghost use lib.ListN.{length};
 ghost use Rattle.typing.specs.Cells.{find};
 ghost use Rattle.typing.specs.Solutions.{Tidy};
 use crate::head::Head;
-use crate::head::HeadDebug;
-use crate::head::HeadPartialEq;
 
 // A variable, a link to a cell of a smaller number, a head, or one cell applied to another.
-#[derive(Clone, Copy, Debug, PartialEq, Eq)]
+#[derive(Clone, Copy)]
 pub enum Cell {
     Free,
     Link(usize),

@@ -7,12 +7,10 @@ ghost use Rattle.typing.specs.Cells.{Pairs, cell, meet, step};
 ghost use Rattle.typing.specs.Meetings.{after, metOf, stepped};
 ghost use Rattle.typing.specs.Solutions.{Tidy};
 use crate::cell::Cell;
-use crate::cell::CellDebug;
-use crate::cell::CellPartialEq;
 use crate::cell::root;
 
 // No term is both; or one cell, with no further work; or one cell whose parts have to be made equal too.
-#[derive(Clone, Copy, Debug, PartialEq, Eq)]
+#[derive(Clone, Copy)]
 pub enum Meeting {
     Clash,
     One(Cell),
