@@ -1,5 +1,7 @@
 // Answers questions to the readings: each line of standard input is a question, and each line of
 // standard output the answer to it. The input may be any bytes, and its last line may lack a newline.
+#![tactic(auto)]
+
 use crate::line_buffer::LineBuffer;
 use question::{ANSWER_ROOM, answer};
 use std::io;

@@ -1,4 +1,6 @@
 // Working out the most general typing of a node by unification.
+#![tactic(auto)]
+
 mod constrain;
 mod cycle;
 mod draft;

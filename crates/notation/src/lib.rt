@@ -1,4 +1,6 @@
 // What is written out: group numbers, nodes, arguments as text, and edit lines.
+#![tactic(auto)]
+
 pub mod argument_text;
 pub mod decimal;
 pub mod edit_lines;

@@ -1,4 +1,6 @@
 // Questions to the readings as lines of text, and the answers to them.
+#![tactic(auto)]
+
 ghost use Rattle.question.specs.Questions.{Answered};
 
 use crate::hex::write_hex;

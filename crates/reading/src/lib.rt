@@ -1,5 +1,7 @@
 // Readings: byte strings kept at the nodes of a tree, each made by a rule from those of the
 // node's children.
+#![tactic(auto)]
+
 ghost use Rattle.std.specs.Prelude.{◌≡◌, ℕ, ◌≤◌};
 ghost use Rattle.reading.specs.Readings.{Asked, Meaning, Sound, Weighed, meter_end, refusal, texts};
 

@@ -1,5 +1,7 @@
 // Reads a sheet file from standard input and prints the edit lines that build its tree, or the line
 // of the refusal. What is printed is made by the library; this only reads and writes.
+#![tactic(auto)]
+
 use anyhow::anyhow;
 use notation::edit_lines::{MAX_ANSWER, write_edit_lines};
 use std::io::{Read, Write};

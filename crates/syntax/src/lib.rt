@@ -1,4 +1,6 @@
 // What rules are made of: kinds of nodes, their arguments, and the refusals.
+#![tactic(auto)]
+
 pub mod argument;
 pub mod fault;
 pub mod kind;

@@ -8,6 +8,8 @@
 //   lines ROOM BYTES        the edit lines of a sheet file, in a buffer of so many bytes
 //   field SORT [TEXT]       the argument that a field holds, printed again
 //   kind WORD               the code and the number of children of a kind
+#![tactic(auto)]
+
 use anyhow::{Context, anyhow};
 use layout::group::read_group;
 use layout::scan::scan;

@@ -1,4 +1,6 @@
 // Types as text.
+#![tactic(auto)]
+
 mod print;
 pub mod theorems;
 pub mod writer;

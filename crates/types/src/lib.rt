@@ -1,5 +1,7 @@
 // The typing reading: a node's string has the most general form of the tree below it, with the numbers
 // of its clashes, overlong nodes and holes.
+#![tactic(auto)]
+
 ghost use Rattle.std.specs.Prelude.{◌≡◌, ◌<◌, ◌≤◌, MatchResult};
 ghost use Rattle.syntax.specs.declared.fault.Fault.TheVariants.{Misfit};
 ghost use Rattle.reading.specs.Readings.{meter_end};

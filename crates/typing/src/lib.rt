@@ -1,4 +1,6 @@
 // The typing reading: types, forms, and the most general typing of a rule.
+#![tactic(auto)]
+
 pub mod cell;
 mod cycle;
 pub mod head;

@@ -2,35 +2,35 @@ use Rattle.std.proofs.Common.{rules}
 use Rattle.syntax.proofs.Spelled.{spelled}
 use Rattle.syntax.proofs.kind.Kind.from_word.Goals as goal
 
-pub returns-in-110 : goal.returns-in-110
-returns-in-110 c = spelled _ _ (search rules) (search rules)
+pub returns-in-num : goal.returns-in-num
+returns-in-num c = spelled _ _ (search rules) (search rules)
 
-pub returns-in-110-2 : goal.returns-in-110-2
-returns-in-110-2 c = spelled _ _ (search rules) (search rules)
+pub returns-in-nil : goal.returns-in-nil
+returns-in-nil c = spelled _ _ (search rules) (search rules)
 
-pub returns-in-118 : goal.returns-in-118
-returns-in-118 c = spelled _ _ (search rules) (search rules)
+pub returns-in-var : goal.returns-in-var
+returns-in-var c = spelled _ _ (search rules) (search rules)
 
-pub returns-in-108 : goal.returns-in-108
-returns-in-108 c = spelled _ _ (search rules) (search rules)
+pub returns-in-lam : goal.returns-in-lam
+returns-in-lam c = spelled _ _ (search rules) (search rules)
 
-pub returns-in-102 : goal.returns-in-102
-returns-in-102 c = spelled _ _ (search rules) (search rules)
+pub returns-in-fix : goal.returns-in-fix
+returns-in-fix c = spelled _ _ (search rules) (search rules)
 
-pub returns-in-115 : goal.returns-in-115
-returns-in-115 c = spelled _ _ (search rules) (search rules)
+pub returns-in-sel : goal.returns-in-sel
+returns-in-sel c = spelled _ _ (search rules) (search rules)
 
-pub returns-in-97 : goal.returns-in-97
-returns-in-97 c = spelled _ _ (search rules) (search rules)
+pub returns-in-app : goal.returns-in-app
+returns-in-app c = spelled _ _ (search rules) (search rules)
 
-pub returns-in-97-2 : goal.returns-in-97-2
-returns-in-97-2 c = spelled _ _ (search rules) (search rules)
+pub returns-in-add : goal.returns-in-add
+returns-in-add c = spelled _ _ (search rules) (search rules)
 
-pub returns-in-101 : goal.returns-in-101
-returns-in-101 c = spelled _ _ (search rules) (search rules)
+pub returns-in-ext : goal.returns-in-ext
+returns-in-ext c = spelled _ _ (search rules) (search rules)
 
-pub returns-in-105 : goal.returns-in-105
-returns-in-105 c = spelled _ _ (search rules) (search rules)
+pub returns-in-ifz : goal.returns-in-ifz
+returns-in-ifz c = spelled _ _ (search rules) (search rules)
 
-pub returns-in-104 : goal.returns-in-104
-returns-in-104 c = spelled _ _ (search rules) (search rules)
+pub returns-in-hole : goal.returns-in-hole
+returns-in-hole c = spelled _ _ (search rules) (search rules)

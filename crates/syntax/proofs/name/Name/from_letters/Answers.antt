@@ -3,21 +3,21 @@ use Rattle.std.proofs.lemmas.Bool.{both_ways}
 use Rattle.syntax.specs.Names.{is_name, letters}
 use Rattle.syntax.proofs.Letters.{named, padded_copy, padded_back, padded_name}
 use Rattle.syntax.proofs.name.Name.from_letters.Goals as goal
-use Rattle.syntax.proofs.name.Name.from_letters.Goals.{else-is-valid-via-then-is-valid+else-len-text, else-is-valid-via-else-is-valid}
+use Rattle.syntax.proofs.name.Name.from_letters.Goals.{else-is_valid-via-then-is_valid+else-len-text, else-is_valid-via-else-is_valid}
 
-pub returns-then-text-gt-MAX-LETTERS : goal.returns-then-text-gt-MAX-LETTERS
-returns-then-text-gt-MAX-LETTERS c n valid is = omega (arith, ap length is, (named n.0 valid).few)
+pub returns-then-text-gt-MAX_LETTERS : goal.returns-then-text-gt-MAX_LETTERS
+returns-then-text-gt-MAX_LETTERS c n valid is = omega (arith, ap length is, (named n.0 valid).few)
 
 pub returns-then-len-text : goal.returns-then-len-text
 returns-then-len-text c = (
-  sym c.if-is-valid.ensures,
-  padded_back _ _ (padded_copy _ _ c.copy-from-slice.ensures.after) (sym c.len.ensures.value ∙ c.if-len-text.true),
+  sym c.if-is_valid.ensures,
+  padded_back _ _ (padded_copy _ _ c.copy_from_slice.ensures.after) (sym c.len.ensures.value ∙ c.if-len-text.true),
 )
 
-pub returns-else-is-valid : goal.returns-else-is-valid
-returns-else-is-valid c n valid is =
-    let same = padded_name _ _ n.0 (padded_copy _ _ c.copy-from-slice.ensures.after) valid is in
-    elim c.else-is-valid.branch [
-      | else-is-valid-via-then-is-valid+else-len-text w ↦ w.if-len-text.false (w.len.ensures.value ∙ ap (λ x. length (letters x)) (sym same) ∙ ap length is)
-      | else-is-valid-via-else-is-valid w ↦ both_ways (is_name n.0) (ap is_name same ∙ sym c.is-valid.ensures ∙ w.if-is-valid.false) valid
+pub returns-else-is_valid : goal.returns-else-is_valid
+returns-else-is_valid c n valid is =
+    let same = padded_name _ _ n.0 (padded_copy _ _ c.copy_from_slice.ensures.after) valid is in
+    elim c.else-is_valid.branch [
+      | else-is_valid-via-then-is_valid+else-len-text w ↦ w.if-len-text.false (w.len.ensures.value ∙ ap (λ x. length (letters x)) (sym same) ∙ ap length is)
+      | else-is_valid-via-else-is_valid w ↦ both_ways (is_name n.0) (ap is_name same ∙ sym c.is_valid.ensures ∙ w.if-is_valid.false) valid
     ]
