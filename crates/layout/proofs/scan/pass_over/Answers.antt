@@ -7,19 +7,19 @@ use Rattle.layout.proofs.scan.pass_over.Goals as goal
 pub returns-then-owed-rest : goal.returns-then-owed-rest
 returns-then-owed-rest c = owed_short _ _ _ _ _ c.loop-owed.invariant c.if-owed-rest.true
 
-pub returns-in-err-symbol : goal.returns-in-err-symbol
-returns-in-err-symbol c = rw c.from-residual.ensures (owed_missing _ _ _ _ _ c.loop-owed.invariant c.loop-owed-test.true c.in-err-symbol.ensures)
+pub returns-in_err-symbol : goal.returns-in_err-symbol
+returns-in_err-symbol c = rw c.from_residual.ensures (owed_missing _ _ _ _ _ c.loop-owed.invariant c.loop-owed-test.true c.in_err-symbol.ensures)
 
 pub loop-owed-smaller : goal.loop-owed-smaller
 loop-owed-smaller c =
-    let (fit, front) = c.in-ok-symbol.ensures in
-    omega (arith, ap length front ∙ length-append (symbol_bytes c.in-ok-symbol.symbol) c.in-ok-symbol.after.now, symbol_some c.in-ok-symbol.symbol)
+    let (fit, front) = c.in_ok-symbol.ensures in
+    omega (arith, ap length front ∙ length-append (symbol_bytes c.in_ok-symbol.symbol) c.in_ok-symbol.after.now, symbol_some c.in_ok-symbol.symbol)
 
 pub loop-owed-preserved : goal.loop-owed-preserved
 loop-owed-preserved c =
-    let (fit, front) = c.in-ok-symbol.ensures in
-    subst (λ n. Owed c.args.bytes.now c.args.count c.in-ok-symbol.after.now (c.loop-owed.owed - 1 + n) (c.loop-owed.nodes + 1)) (sym c.arity.ensures)
-    (owed_more _ _ _ _ _ c.loop-owed.invariant c.loop-owed-test.true c.in-ok-symbol.symbol c.in-ok-symbol.after.now fit front)
+    let (fit, front) = c.in_ok-symbol.ensures in
+    subst (λ n. Owed c.args.bytes.now c.args.count c.in_ok-symbol.after.now (c.loop-owed.owed - 1 + n) (c.loop-owed.nodes + 1)) (sym c.arity.ensures)
+    (owed_more _ _ _ _ _ c.loop-owed.invariant c.loop-owed-test.true c.in_ok-symbol.symbol c.in_ok-symbol.after.now fit front)
 
 pub returns : goal.returns
 returns c =
