@@ -12,12 +12,12 @@ use Rattle.notation.proofs.argument_text.push_argument.Goals as goal
 digits : (a : Argument) (n : ℕ) → a ≡ Number n → sound a ≡ true → length (decimal n) ≤ 6
 digits a n is fit = short n (leb-true n 999999 (subst (λ x. sound x ≡ true) is fit))
 
-pub push-decimal-requires : goal.push-decimal-requires
-push-decimal-requires c = omega (arith, digits _ _ c.in-Number.is c.requires.sound)
+pub push_decimal-requires : goal.push_decimal-requires
+push_decimal-requires c = omega (arith, digits _ _ c.in-Number.is c.requires.sound)
 
 pub returns-in-Number : goal.returns-in-Number
 returns-in-Number c =
     record {
-      bytes = c.push-decimal.ensures.bytes ∙ ap (λ a. text_of c.args.text.now ++ argument_text a) (sym c.in-Number.is);
+      bytes = c.push_decimal.ensures.bytes ∙ ap (λ a. text_of c.args.text.now ++ argument_text a) (sym c.in-Number.is);
       len = omega (arith, digits _ _ c.in-Number.is c.requires.sound);
     }

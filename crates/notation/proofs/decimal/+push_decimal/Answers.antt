@@ -15,8 +15,8 @@ returns-then-n-lt10 t c =
     let digit = decimal_digit c.args.n c.if-n-lt10.true in
     record { bytes = c.push.ensures.bytes ∙ ap (λ z. text_of c.args.text.now ++ z) (sym digit); len = omega (arith, ap length digit) }
 
-pub push-decimal-requires : goal.push-decimal-requires
-push-decimal-requires t c = (omega arith, omega (arith, longer c.args.n c.if-n-lt10.false (omega arith)))
+pub push_decimal-requires : goal.push_decimal-requires
+push_decimal-requires t c = (omega arith, omega (arith, longer c.args.n c.if-n-lt10.false (omega arith)))
 
 pub push-requires-else-n-lt10 : goal.push-requires-else-n-lt10
 push-requires-else-n-lt10 t c =
@@ -28,7 +28,7 @@ returns-else-n-lt10 t c =
     let before = text_of c.args.text.now in
     record {
       bytes = c.push-else-n-lt10.ensures.bytes
-          ∙ ap (λ z. z ++ (48 + n % 10) ∷ []) c.push-decimal.ensures.bytes
+          ∙ ap (λ z. z ++ (48 + n % 10) ∷ []) c.push_decimal.ensures.bytes
           ∙ append_assoc before (decimal (n / 10)) ((48 + n % 10) ∷ [])
           ∙ ap (λ z. before ++ z) (sym (decimal_step n c.if-n-lt10.false (omega arith)));
       len = omega (arith, longer n c.if-n-lt10.false (omega arith));

@@ -1,5 +1,5 @@
 use Rattle.std.proofs.Common.{length}
 use Rattle.notation.proofs.decimal.+read_digits.Given as goal
 
-abbrev pub decreases-read-digits : goal.decreases-read-digits
-decreases-read-digits l = length l.text.now
+abbrev pub decreases-read_digits : goal.decreases-read_digits
+decreases-read_digits l = length l.text.now

@@ -2,8 +2,8 @@ use Rattle.std.proofs.Common.{arith}
 use Rattle.notation.proofs.Decimals.{short}
 use Rattle.notation.proofs.edit_lines.no_line.Goals as goal
 
-pub push-decimal-requires : goal.push-decimal-requires
-push-decimal-requires c = omega (arith, short c.number.result (omega arith))
+pub push_decimal-requires : goal.push_decimal-requires
+push_decimal-requires c = omega (arith, short c.number.result (omega arith))
 
 pub push-requires : goal.push-requires
 push-requires c = omega (arith, short c.number.result (omega arith))

@@ -12,14 +12,14 @@ spaced_some (Number n) some = refl
 spaced_some (Name n) some = refl
 spaced_some (Label l) some = refl
 
-pub returns-in-default : goal.returns-in-default
-returns-in-default c =
+pub returns-in_default : goal.returns-in_default
+returns-in_default c =
     let before = text_of c.args.text.now in
     let a = c.args.argument in
     record {
-      bytes = c.push-argument.ensures.bytes
+      bytes = c.push_argument.ensures.bytes
           ∙ ap (λ z. z ++ argument_text a) c.push.ensures.bytes
           ∙ append_assoc before (32 ∷ []) (argument_text a)
-          ∙ ap (λ z. before ++ z) (spaced_some a c.in-default.not-Nothing);
+          ∙ ap (λ z. before ++ z) (spaced_some a c.in_default.not-Nothing);
       len = omega arith;
     }

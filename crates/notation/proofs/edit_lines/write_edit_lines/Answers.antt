@@ -6,17 +6,17 @@ use Rattle.notation.proofs.Edits.{rebuilds}
 use Rattle.notation.proofs.ParseBack.{parses_back}
 use Rattle.notation.proofs.edit_lines.write_edit_lines.Goals as goal
 
-pub returns-then-out-lt-MAX-ANSWER : goal.returns-then-out-lt-MAX-ANSWER
-returns-then-out-lt-MAX-ANSWER c =
-    record { answer = rw (lt-leb 57344 (length c.args.out.now) c.if-out-lt-MAX-ANSWER.true) (refl, refl); meaning = rebuilds; fields = parses_back }
+pub returns-then-out-lt-MAX_ANSWER : goal.returns-then-out-lt-MAX_ANSWER
+returns-then-out-lt-MAX_ANSWER c =
+    record { answer = rw (lt-leb 57344 (length c.args.out.now) c.if-out-lt-MAX_ANSWER.true) (refl, refl); meaning = rebuilds; fields = parses_back }
 
 pub returns-in-Err : goal.returns-in-Err
 returns-in-Err c =
-    let t = c.no-line.result in
-    let (told, is) = wrote_fits (text_of t) _ _ _ (omega (arith, length-take t.len t.bytes, t.within)) c.copy-to.ensures in
+    let t = c.no_line.result in
+    let (told, is) = wrote_fits (text_of t) _ _ _ (omega (arith, length-take t.len t.bytes, t.within)) c.copy_to.ensures in
     record {
-      answer = rw (le-leb 57344 (length c.args.out.now) c.if-out-lt-MAX-ANSWER.false)
-          (text_of t, inr (c.in-Err.fault, c.in-Err.ensures.answer, c.no-line.ensures), told, is);
+      answer = rw (le-leb 57344 (length c.args.out.now) c.if-out-lt-MAX_ANSWER.false)
+          (text_of t, inr (c.in-Err.fault, c.in-Err.ensures.answer, c.no_line.ensures), told, is);
       meaning = rebuilds;
       fields = parses_back;
     }
@@ -24,10 +24,10 @@ returns-in-Err c =
 pub returns-in-Ok : goal.returns-in-Ok
 returns-in-Ok c =
     let g = c.in-Ok.ensures.answer in
-    let (told, is) = written_some _ _ _ c.write-tree.result _ (c.write-tree.ensures g.tree g.file g.shallow (omega (arith, g.small))) in
+    let (told, is) = written_some _ _ _ c.write_tree.result _ (c.write_tree.ensures g.tree g.file g.shallow (omega (arith, g.small))) in
     record {
-      answer = rw (le-leb 57344 (length c.args.out.now) c.if-out-lt-MAX-ANSWER.false)
-          (_, inl (g.tree, g.file, g.shallow, g.small, refl), c.ok-or.ensures.value ∙ told, is);
+      answer = rw (le-leb 57344 (length c.args.out.now) c.if-out-lt-MAX_ANSWER.false)
+          (_, inl (g.tree, g.file, g.shallow, g.small, refl), c.ok_or.ensures.value ∙ told, is);
       meaning = rebuilds;
       fields = parses_back;
     }

@@ -5,8 +5,8 @@ use Rattle.notation.specs.Texts.{text_of}
 use Rattle.layout.proofs.Groups.{groups_small, groups_more, bound_more}
 use Rattle.notation.proofs.group.+push_groups.Goals as goal
 
-pub push-groups-requires : goal.push-groups-requires
-push-groups-requires t c =
+pub push_groups-requires : goal.push_groups-requires
+push_groups-requires t c =
     let longer = ap length c.push-then-more-gt0.ensures.bytes ∙ length_push (text_of c.args.text.now) (128 + c.args.value % 128) in
     (omega arith, (bound_more c.args.more c.args.value c.if-more-gt0.true c.requires.group, omega (arith, longer, c.requires.room)))
 
@@ -20,7 +20,7 @@ returns-then-more-gt0 t c =
     let more = c.args.more in
     let before = text_of c.args.text.now in
     let above = groups (more - 1) (value / 128) in
-    c.push-groups.ensures
+    c.push_groups.ensures
     ∙ ap (λ z. z ++ above) c.push-then-more-gt0.ensures.bytes
     ∙ append_assoc before ((128 + value % 128) ∷ []) above
     ∙ ap (λ z. before ++ z) (sym (groups_more more value c.if-more-gt0.true c.if-value-lt128.false))
