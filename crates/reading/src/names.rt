@@ -7,7 +7,6 @@ ghost use Rattle.reading.specs.NameSets.{names_of};
 ghost use Rattle.reading.specs.NamesRule.{binds, collected, named, name_in, shows};
 ghost use Rattle.reading.specs.Readings.{meter_end, texts};
 ghost use Rattle.reading.specs.NamesLaws.{named_sound};
-ghost use Rattle.std.proofs.Common.{rules, arith};
 
 use crate::name_set::NameSet;
 use crate::name_set::build::is_allowed;
@@ -52,9 +51,9 @@ impl Reading for Names {
 
     ghost metered = { λ x. x.meter };
 
-    ghost sound = { λ x. named_sound };
+    ghost sound = { λ _. named_sound };
 
-    ghost within = { first_of (Prim.search rules, Prim.grind (arith, Self.row.coded.inj)) };
+    ghost within = { λ x. x.within };
 
     fn limit(&self) -> usize {
         NAMES_LIMIT

@@ -18,7 +18,7 @@ pub fn ask_twice<R: Reading>(
     work: &mut [u8],
     out: &mut [u8],
 ) -> Result<usize, Fault>
-    ensures { Twice means metered reading.old reading.new lower (texts parts.now) upper work.old work.new out.old out.new result }
+    ensures { Twice R.means R.metered reading.old reading.new lower (texts parts.now) upper work.old work.new out.old out.new result }
 {
     let n = reading.ask(lower.kind, lower.argument, parts, work)?;
     ask_over(reading, upper, &work[0..n], out)
@@ -31,7 +31,7 @@ fn ask_over<R: Reading>(
     text: &[u8],
     out: &mut [u8],
 ) -> Result<usize, Fault>
-    ensures { Asked means metered reading.old reading.new upper (text.now ∷ []) out.old out.new result }
+    ensures { Asked R.means R.metered reading.old reading.new upper (text.now ∷ []) out.old out.new result }
 {
     reading.ask(upper.kind, upper.argument, &[text], out)
 }

@@ -7,7 +7,7 @@ use Rattle.reading.proofs.names.collect.Goals as goal
 
 pub loop-part-preserved : goal.loop-part-preserved
 loop-part-preserved c =
-    let bound = c.bound-name-bound.result in
+    let bound = c.bound_name-bound.result in
     let slices = c.args.parts.now in
     ap (merge_all bound (texts (drop (c.loop-part.part-index + 1) slices))) c.merge.ensures
     ∙ sym (merge_more bound (names_of c.loop-part.set) slices c.loop-part.part-index _ c.loop-part-test.true)
@@ -15,13 +15,13 @@ loop-part-preserved c =
 
 pub returns-in-Some : goal.returns-in-Some
 returns-in-Some c =
-    let bound = c.bound-name-bound.result in
+    let bound = c.bound_name-bound.result in
     let slices = c.args.parts.now in
     c.insert.ensures
-    ∙ ap₂ add_own c.in-Some.ensures (sym (merge_end bound (names_of c.loop-part.set) slices c.loop-part.part-index c.loop-part-test.false) ∙ c.loop-part.invariant ∙ ap (λ b. merge_all b (texts slices) (Some [])) c.bound-name-bound.ensures)
+    ∙ ap₂ add_own c.in-Some.ensures (sym (merge_end bound (names_of c.loop-part.set) slices c.loop-part.part-index c.loop-part-test.false) ∙ c.loop-part.invariant ∙ ap (λ b. merge_all b (texts slices) (Some [])) c.bound_name-bound.ensures)
 
-pub returns-in-default : goal.returns-in-default
-returns-in-default c =
-    let bound = c.bound-name-bound.result in
+pub returns-in_default : goal.returns-in_default
+returns-in_default c =
+    let bound = c.bound_name-bound.result in
     let slices = c.args.parts.now in
-    ap₂ add_own c.in-default.ensures (sym (merge_end bound (names_of c.loop-part.set) slices c.loop-part.part-index c.loop-part-test.false) ∙ c.loop-part.invariant ∙ ap (λ b. merge_all b (texts slices) (Some [])) c.bound-name-bound.ensures)
+    ap₂ add_own c.in_default.ensures (sym (merge_end bound (names_of c.loop-part.set) slices c.loop-part.part-index c.loop-part-test.false) ∙ c.loop-part.invariant ∙ ap (λ b. merge_all b (texts slices) (Some [])) c.bound_name-bound.ensures)

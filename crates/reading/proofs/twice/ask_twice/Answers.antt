@@ -4,4 +4,4 @@ use Rattle.reading.proofs.TwoQuestions.{twice}
 use Rattle.reading.proofs.twice.ask_twice.Goals as goal
 
 pub returns : goal.returns
-returns g c = twice _ _ _ _ _ _ _ _ _ _ _ _ _ c.ask-over.result _ c.in-ok-n.ensures (ap (λ k. take k c.ask.new.out) (sub-zero c.in-ok-n.n)) c.ask-over.ensures
+returns g c = twice _ _ _ _ _ _ _ _ _ _ _ _ _ c.ask_over.result _ c.in_ok-n.ensures (ap (λ k. take k c.ask.new.out) (sub-zero c.in_ok-n.n)) c.ask_over.ensures

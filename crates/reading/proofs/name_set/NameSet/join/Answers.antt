@@ -21,7 +21,7 @@ loop-b-preserved c =
         omega (arith, w.filled-is),
         four,
         ap₂ (λ k s. join bound (fours (take k (set held f (get_or bytes i 0)) ++ rest)) (names_of s)) w.filled-is w.self-is
-            ∙ ap (join bound (fours rest)) w.insert-free.ensures
+            ∙ ap (join bound (fours rest)) w.insert_free.ensures
             ∙ sym (ap (λ ns. join bound ns (names_of c.loop-b.self)) (wait_ends held bytes f i c.loop-b.invariant.1 c.loop-b.invariant.0 c.loop-b-test.true w.if-filled-eq4.true))
             ∙ c.loop-b.invariant.2,
       )

@@ -11,4 +11,4 @@ returns-then-last-here t c =
     let above : c.args.last < key (record { 0 = four }) = omega arith in
     c.rises.ensures
     ∙ ap (λ k. rising k (fours c.in-Some.rest.now)) c.key-here.ensures
-    ∙ rises_more c.args.last c.args.bytes.now four c.in-Some.rest.now cut.0 cut.1 cut.2 (sym c.if-not-is-valid.ensures) above
+    ∙ rises_more c.args.last c.args.bytes.now four c.in-Some.rest.now cut.0 cut.1 cut.2 (sym c.if-not-is_valid.ensures) above

@@ -7,6 +7,6 @@ returns c =
     let at = c.args.at in
     let four : at + 4 - at ≡ 4 = omega arith in
     record {
-      wrote = ap₂ (λ z k. take at c.args.out.now ++ (z ++ drop k (drop at c.args.out.now))) c.copy-from-slice.ensures.after four ∙ ap (λ z. take at c.args.out.now ++ (c.args.name.0 ++ z)) (drop-drop 4 at c.args.out.now);
+      wrote = ap₂ (λ z k. take at c.args.out.now ++ (z ++ drop k (drop at c.args.out.now))) c.copy_from_slice.ensures.after four ∙ ap (λ z. take at c.args.out.now ++ (c.args.name.0 ++ z)) (drop-drop 4 at c.args.out.now);
       long = search rules;
     }
