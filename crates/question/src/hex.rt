@@ -1,7 +1,7 @@
 // Bytes as pairs of lowercase hexadecimal digits.
 ghost use Rattle.std.specs.Prelude.{◌≡◌, ◌+◌, ◌*◌, ◌<◌, ◌≤◌, true, ◌++◌, length, drop};
 ghost use Rattle.question.specs.Fields.{is_string};
-ghost use Rattle.question.specs.Hex.{digit as digitOf, hex, is_digit, is_hex, unhex as unhexed, worth as worthOf};
+ghost use Rattle.question.specs.Hex.{digit as digit_of, hex, is_digit, is_hex, unhex as unhexed, worth as worth_of};
 
 fn is_digit(c: u8) -> bool
     ensures { result ≡ is_digit c }
@@ -28,7 +28,7 @@ pub(crate) fn is_hex(text: &[u8]) -> bool
 // What a digit is worth.
 fn worth(c: u8) -> u8
     requires { is_digit c ≡ true }
-    ensures value { result ≡ worthOf c }
+    ensures value { result ≡ worth_of c }
     ensures bound { result < 16 }
 {
     if c <= b'9' { c - b'0' } else { c - b'a' + 10 }
@@ -54,7 +54,7 @@ pub(crate) fn unhex(text: &[u8], out: &mut [u8]) -> usize
 
 fn digit(n: u8) -> u8
     requires { n < 16 }
-    ensures { result ≡ digitOf n }
+    ensures { result ≡ digit_of n }
 {
     if n < 10 { b'0' + n } else { b'a' + n - 10 }
 }

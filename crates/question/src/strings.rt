@@ -23,11 +23,11 @@ pub(crate) fn ask_strings<R: Reading>(
     out: &mut [u8],
 ) -> Result<usize, Fault>
     requires fit { fits symbol ≡ true }
-    requires some { metered reading.old < meter_end }
-    requires room { (means reading.old).bound ≤ length out.old }
+    requires some { R.metered reading.old < meter_end }
+    requires room { (R.means reading.old).bound ≤ length out.old }
     requires strings { are_strings (fields_in rest) ≡ true }
     requires short { length_in rest ≤ 4096 }
-    ensures { Asked means metered reading.old reading.new symbol (map unhexed (fields_in rest.entry)) out.old out.new result }
+    ensures { Asked R.means R.metered reading.old reading.new symbol (map unhexed (fields_in rest.entry)) out.old out.new result }
 {
     let kind = symbol.kind;
     let argument = symbol.argument;

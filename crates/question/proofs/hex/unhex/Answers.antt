@@ -33,7 +33,7 @@ pub returns : goal.returns
 returns c =
     let room : c.loop-pair.n ≤ length c.loop-pair.out = omega arith in
     record {
-      long = end_long c.loop-pair.out c.args.out.now c.loop-pair.rest.now _ c.loop-pair.n room c.in-default.ensures.cases c.loop-pair.invariant.0;
+      long = end_long c.loop-pair.out c.args.out.now c.loop-pair.rest.now _ c.loop-pair.n room c.in_default.ensures.cases c.loop-pair.invariant.0;
       half = omega arith;
-      wrote = end_wrote c.loop-pair.out c.args.out.now c.loop-pair.rest.now _ c.loop-pair.n room c.in-default.ensures.cases c.loop-pair.invariant.0 c.loop-pair.invariant.1;
+      wrote = end_wrote c.loop-pair.out c.args.out.now c.loop-pair.rest.now _ c.loop-pair.n room c.in_default.ensures.cases c.loop-pair.invariant.0 c.loop-pair.invariant.1;
     }
