@@ -1,6 +1,6 @@
 -- What a rule alone gives under the names reading lists its free names. Assumes nothing.
 use Rattle.std.proofs.Common.{◌≡◌, ℕ, zero, suc, ◌<◌, ◌≤◌, Bool, true, false, cond, eqb, ◌⊎◌, List, [], ◌∷◌, map, length, Some, None, Option, sym, refl, ap, ◌∙◌, subst, ap₂, inl, inr, arith}
-use Rattle.std.specs.List.{AllByRecursion as All}
+use Rattle.std.specs.List.{AllByRecursion}
 use Rattle.std.proofs.lemmas.Bool.{eq-eqb, ne_eqb, eqb-false, cases_eq, false≢true}
 use Rattle.syntax.specs.Arguments.{fits, of_sort}
 use Rattle.syntax.specs.Rules.{Rule, WellFormed}
@@ -34,13 +34,13 @@ abbrev all_names : Forest Symbol → List (Option (List Name))
 all_names none = []
 all_names (grow s c f) = node_names s (all_names c) ∷ all_names f
 
-merge_names_good : (bound : Option Name) (below : List (Option (List Name))) (set : Option (List Name)) → All Good below → Good set → Good (merge_names bound below set)
+merge_names_good : (bound : Option Name) (below : List (Option (List Name))) (set : Option (List Name)) → AllByRecursion Good below → Good set → Good (merge_names bound below set)
 merge_names_good bound [] set goods good = good
 merge_names_good bound (None ∷ rest) set goods good = merge_names_good bound rest None goods.1 tt
 merge_names_good bound (Some ns ∷ rest) set goods good =
     merge_names_good bound rest (join bound ns set) goods.1 (join_good bound ns set (rising_valid 0 ns goods.0.0) good)
 
-all_names_good : (f : Forest Symbol) → WellFormed f → All Good (all_names f)
+all_names_good : (f : Forest Symbol) → WellFormed f → AllByRecursion Good (all_names f)
 all_names_good none formed = tt
 all_names_good (grow s c f) formed = (
   add_own_good (shows s.kind s.argument) _ (shown_valid s.kind s.argument formed.0)
@@ -48,7 +48,7 @@ all_names_good (grow s c f) formed = (
   all_names_good f formed.3,
 )
 
-merge_spelled : (bound : Option Name) (below : List (Option (List Name))) (set : Option (List Name)) → All Good below → merge_all bound (map spelled below) set ≡ merge_names bound below set
+merge_spelled : (bound : Option Name) (below : List (Option (List Name))) (set : Option (List Name)) → AllByRecursion Good below → merge_all bound (map spelled below) set ≡ merge_names bound below set
 merge_spelled bound [] set goods = refl
 merge_spelled bound (None ∷ rest) set goods = merge_spelled bound rest None goods.1
 merge_spelled bound (Some ns ∷ rest) set goods =

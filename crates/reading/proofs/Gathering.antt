@@ -1,6 +1,6 @@
 -- Names as they are gathered: a list holds exactly those that belong, or they are too many. Assumes nothing.
 use Rattle.std.proofs.Common.{◌≡◌, ℕ, suc, ◌<◌, ◌≤◌, Bool, true, false, cond, leb, ◌⊎◌, List, [], ◌∷◌, length, Some, None, Option, sym, refl, ap, ◌∙◌, subst, inl, inr, arith}
-use Rattle.std.specs.List.{AllByRecursion as All}
+use Rattle.std.specs.List.{AllByRecursion}
 use Rattle.std.proofs.lemmas.Bool.{cases_order, cases_Bool, leb-true, leb-false, both_ways}
 use Rattle.syntax.specs.declared.name.Name.{Name}
 use Rattle.reading.specs.FreeNames.{Among}
@@ -31,7 +31,7 @@ insert_out n (m ∷ ms) x here =
     above (inl e) rest = inr (inl e)
     above (inr later) rest = elim (rest later) [ inl e ↦ inl e | inr r ↦ inr (inr r) ]
 
-pub insert_in : (n : Name) (ns : List Name) (x : Name) → Valid n → All Valid ns → (x ≡ n) ⊎ Among x ns → Among x (insert n ns)
+pub insert_in : (n : Name) (ns : List Name) (x : Name) → Valid n → AllByRecursion Valid ns → (x ≡ n) ⊎ Among x ns → Among x (insert n ns)
 insert_in n [] x vn vs (inl e) = inl e
 insert_in n [] x vn vs (inr no') = absurd no'
 insert_in n (m ∷ ms) x vn vs h =
@@ -110,7 +110,7 @@ Unbound bound n = is_bound bound n ≡ false
 abbrev pub Joined : Option Name → (Name → Type 0) → List Name → Name → Type 0
 Joined bound P ns x = P x ⊎ (Among x ns × Unbound bound x)
 
-pub join_gathers : (bound : Option Name) (P : Name → Type 0) (ns : List Name) (set : Option (List Name)) → All Valid ns → Gathers P set → Gathers (Joined bound P ns) (join bound ns set)
+pub join_gathers : (bound : Option Name) (P : Name → Type 0) (ns : List Name) (set : Option (List Name)) → AllByRecursion Valid ns → Gathers P set → Gathers (Joined bound P ns) (join bound ns set)
 join_gathers bound P [] set valid g = gathers_same P (Joined bound P []) set (λ x p. inl p) (λ x h. elim h [ inl p ↦ p | inr q ↦ absurd q.0 ]) g
 join_gathers bound P (n ∷ ns) set valid g = by_test (cases_Bool (is_bound bound n)) (λ Q set' h. join_gathers bound Q ns set' valid.1 h)
   where

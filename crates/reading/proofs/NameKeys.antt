@@ -1,7 +1,7 @@
 -- Names that are told apart by their keys, and rising lists of them. Assumes nothing.
 use Rattle.std.proofs.Common.{◌≡◌, ℕ, zero, suc, ◌+◌, ◌-◌, ◌*◌, ◌<◌, ◌≤◌, Bool, true, false, cond, ◌&&◌, leb, ◌⊎◌, List, [], ◌∷◌, ◌++◌, length, replicate, sym, refl, ap, ◌∙◌, subst, ap₂, inl, inr, arith}
 use Rattle.std.specs.Char.{is_ascii_lowercase}
-use Rattle.std.specs.List.{AllByRecursion as All}
+use Rattle.std.specs.List.{AllByRecursion}
 use Rattle.std.proofs.ByRecursion.{All-append}
 use Rattle.std.proofs.lemmas.Bool.{and_parts, leb-true, cases_Bool}
 use Rattle.syntax.proofs.Letters.{named}
@@ -14,29 +14,29 @@ use Rattle.reading.specs.NameLists.{Valid, rising_parts}
 abbrev pub Low : ℕ → Type 0
 Low b = b < 256
 
-letters_low : (bs : List ℕ) → All Low (letters bs)
+letters_low : (bs : List ℕ) → AllByRecursion Low (letters bs)
 letters_low [] = tt
 letters_low (b ∷ bs) = by_test (letters_low bs) (cases_Bool (is_ascii_lowercase b))
   where
-    by_test : All Low (letters bs) → (is_ascii_lowercase b ≡ true) ⊎ (is_ascii_lowercase b ≡ false) → All Low (cond (is_ascii_lowercase b) (b ∷ letters bs) [])
+    by_test : AllByRecursion Low (letters bs) → (is_ascii_lowercase b ≡ true) ⊎ (is_ascii_lowercase b ≡ false) → AllByRecursion Low (cond (is_ascii_lowercase b) (b ∷ letters bs) [])
     by_test rest (inl e) =
         let high = leb-true b 122 (and_parts (leb 97 b) (leb b 122) e).1 in
         let low : b < 256 = omega (arith, high) in
-        subst (λ t. All Low (cond t (b ∷ letters bs) [])) (sym e) (low, rest)
-    by_test rest (inr e) = subst (λ t. All Low (cond t (b ∷ letters bs) [])) (sym e) tt
+        subst (λ t. AllByRecursion Low (cond t (b ∷ letters bs) [])) (sym e) (low, rest)
+    by_test rest (inr e) = subst (λ t. AllByRecursion Low (cond t (b ∷ letters bs) [])) (sym e) tt
 
-zeros_low : (k : ℕ) → All Low (replicate k 0)
+zeros_low : (k : ℕ) → AllByRecursion Low (replicate k 0)
 zeros_low zero = tt
 zeros_low (suc k) = (omega arith, zeros_low k)
 
-pub name_low : (bs : List ℕ) → is_name bs ≡ true → All Low bs
+pub name_low : (bs : List ℕ) → is_name bs ≡ true → AllByRecursion Low bs
 name_low bs valid =
-    subst (All Low) (sym (named bs valid).made) (All-append Low (letters bs) (replicate (4 - length (letters bs)) 0) (letters_low bs) (zeros_low (4 - length (letters bs))))
+    subst (AllByRecursion Low) (sym (named bs valid).made) (All-append Low (letters bs) (replicate (4 - length (letters bs)) 0) (letters_low bs) (zeros_low (4 - length (letters bs))))
 
 abbrev value : List ℕ → ℕ
 value bs = key (record { 0 = bs })
 
-same_bytes : (xs ys : List ℕ) → length xs ≡ 4 → length ys ≡ 4 → All Low xs → All Low ys → value xs ≡ value ys → xs ≡ ys
+same_bytes : (xs ys : List ℕ) → length xs ≡ 4 → length ys ≡ 4 → AllByRecursion Low xs → AllByRecursion Low ys → value xs ≡ value ys → xs ≡ ys
 same_bytes (a ∷ b ∷ c ∷ d ∷ []) (a' ∷ b' ∷ c' ∷ d' ∷ []) lx ly low low' e =
     let h = low.0 in
     let i = low.1.0 in

@@ -1,7 +1,7 @@
 -- Rising names, and the strings that list them. Assumes nothing.
 use Rattle.std.specs.Prelude.{◌≡◌, ℕ, zero, suc, ◌+◌, ◌*◌, ◌<◌, ◌≤◌, Bool, true, false, cond, ◌&&◌, ◌⊎◌, List, [], ◌∷◌, ◌++◌, length, Some, None, Option, ◌==◌, nat_le, nat_lt, refl}
 use Rattle.std.proofs.Common.{sym, ap, ap₂, subst, ◌∙◌, inl, inr, arith}
-use Rattle.std.specs.List.{flat_map, AllByRecursion as All}
+use Rattle.std.specs.List.{flat_map, AllByRecursion}
 use Rattle.std.specs.Char.{is_ascii_lowercase}
 use Rattle.std.proofs.lemmas.List.{length-append}
 use Rattle.std.proofs.lemmas.Bool.{and_parts, and_from, lt-ltb, ltb-true, le-leb, leb-true, eq-eqb, eqb-true, cases_order, cases_Bool, false≢true, cond_both}
@@ -50,7 +50,7 @@ pub rising_lower : (low last : ℕ) (ns : List Name) → low ≤ last → rising
 rising_lower low last [] le h = refl
 rising_lower low last (n ∷ ns) le h = let p = rising_parts last n ns h in rising_cons low n ns p.0 (omega (arith, p.1)) p.2
 
-pub rising_valid : (last : ℕ) (ns : List Name) → rising last ns ≡ true → All Valid ns
+pub rising_valid : (last : ℕ) (ns : List Name) → rising last ns ≡ true → AllByRecursion Valid ns
 rising_valid last [] h = tt
 rising_valid last (n ∷ ns) h = let p = rising_parts last n ns h in (p.0, rising_valid (key n) ns p.2)
 
@@ -82,18 +82,18 @@ add_good n (Some ns) valid good =
     (λ few. (insert_rising 0 n ns valid (valid_key n valid) good.0, leb-true (length (insert n ns)) 63 few))
     (λ _. tt)
 
-pub join_good : (bound : Option Name) (ns : List Name) (set : Option (List Name)) → All Valid ns → Good set → Good (join bound ns set)
+pub join_good : (bound : Option Name) (ns : List Name) (set : Option (List Name)) → AllByRecursion Valid ns → Good set → Good (join bound ns set)
 join_good bound [] set valid good = good
 join_good bound (n ∷ ns) set valid good =
     join_good bound ns (cond (is_bound bound n) set (add n set)) valid.1
     (cond_both (is_bound bound n) set (add n set) Good (λ _. good) (λ _. add_good n set valid.0 good))
 
 -- names to bytes and back
-pub fours_bytes : (ns : List Name) → All Valid ns → fours (bytes_of ns) ≡ ns
+pub fours_bytes : (ns : List Name) → AllByRecursion Valid ns → fours (bytes_of ns) ≡ ns
 fours_bytes [] valid = refl
 fours_bytes (n ∷ ns) valid = fours_full n.0 (bytes_of ns) (named n.0 valid.0).four ∙ ap (λ z. n ∷ z) (fours_bytes ns valid.1)
 
-pub length_bytes : (ns : List Name) → All Valid ns → length (bytes_of ns) ≡ 4 * length ns
+pub length_bytes : (ns : List Name) → AllByRecursion Valid ns → length (bytes_of ns) ≡ 4 * length ns
 length_bytes [] valid = refl
 length_bytes (n ∷ ns) valid = omega (arith, length-append n.0 (bytes_of ns), (named n.0 valid.0).four, length_bytes ns valid.1)
 
