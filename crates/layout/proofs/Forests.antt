@@ -1,12 +1,11 @@
 -- Well-formed forests and their bytes. Assumes nothing.
-use Rattle.std.proofs.Common.{◌≡◌, ℕ, zero, suc, ◌+◌, ◌<◌, ◌≤◌, max, true, List, [], ◌∷◌, ◌++◌, length, sym, refl, ap, ◌∙◌, subst, ap₂, append_assoc, arith, length-append}
-use Rattle.syntax.specs.Arguments.{fits}
+use Rattle.std.proofs.Common.{◌≡◌, ℕ, zero, suc, ◌+◌, ◌<◌, ◌≤◌, List, ◌++◌, length, sym, refl, ap, ◌∙◌, append_assoc, arith, length-append}
 use Rattle.layout.specs.Files.{forest_bytes}
 use Rattle.syntax.specs.Rules.{WellFormed}
 use Rattle.syntax.specs.Kinds.{arity, code_of}
 use Rattle.layout.specs.SymbolBytes.{argument_bytes, symbol_bytes}
 use Rattle.layout.specs.Groups.{group}
-use Rattle.syntax.specs.Trees.{Forest, none, grow, join, count, nodes, levels}
+use Rattle.syntax.specs.Trees.{Forest, none, grow, join, count, nodes}
 use Rattle.syntax.specs.declared.argument.Symbol.{Symbol}
 use Rattle.layout.proofs.Groups.{groups_some}
 use Rattle.layout.proofs.Prefixes.{symbol_prefix}

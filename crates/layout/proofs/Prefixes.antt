@@ -1,19 +1,18 @@
 -- What is spelled in a file can be told from what follows it: two arguments, symbols or forests that
 -- begin the same bytes are equal, and leave the same rest. Assumes nothing.
-use Rattle.std.proofs.Common.{◌≡◌, ℕ, ◌-◌, ◌<◌, ◌≤◌, true, leb, List, [], ◌∷◌, ◌++◌, length, take, drop, replicate, Some, None, sym, refl, ap, ◌∙◌, subst, ap₂, append_assoc, arith}
+use Rattle.std.proofs.Common.{◌≡◌, ℕ, ◌-◌, ◌≤◌, true, List, ◌++◌, length, take, drop, replicate, Some, None, sym, refl, ap, ◌∙◌, subst, ap₂, append_assoc, arith}
 use Rattle.std.proofs.lemmas.List.{take_at, drop_at}
 use Rattle.std.proofs.lemmas.Bool.{false≢true, leb-true}
 use Rattle.syntax.specs.Arguments.{fits, of_sort}
-use Rattle.layout.specs.Groups.{Group, bound, group}
+use Rattle.layout.specs.Groups.{Group, group}
 use Rattle.layout.specs.Readers.{ReadsBack}
-use Rattle.syntax.specs.Kinds.{code_of, sort_of, arity}
+use Rattle.syntax.specs.Kinds.{code_of, sort_of}
 use Rattle.syntax.specs.Labels.{label_code}
 use Rattle.syntax.specs.Names.{is_name, letters}
 use Rattle.layout.specs.SymbolBytes.{argument_bytes, symbol_bytes}
 use Rattle.syntax.specs.declared.argument.Argument.{Argument}
 use Rattle.syntax.specs.declared.argument.Argument.TheVariants as argument
 use Rattle.syntax.specs.declared.argument.Symbol.{Symbol}
-use Rattle.syntax.specs.declared.kind.Kind.{Kind}
 use Rattle.syntax.specs.declared.kind.Sort.{Sort}
 use Rattle.syntax.specs.declared.kind.Sort.TheVariants as sort
 use Rattle.syntax.specs.declared.label.Label.{Label}

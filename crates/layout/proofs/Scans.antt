@@ -1,9 +1,9 @@
 -- The steps of a scan: trees that stand one after the other in a file. Assumes nothing.
-use Rattle.std.proofs.Common.{◌≡◌, ℕ, zero, suc, ◌+◌, ◌-◌, ◌<◌, ◌≤◌, min, max, true, List, [], ◌∷◌, ◌++◌, length, sym, refl, ap, ◌∙◌, subst, append_assoc, append-nil, arith, length-append}
+use Rattle.std.proofs.Common.{◌≡◌, ℕ, ◌+◌, ◌-◌, ◌<◌, ◌≤◌, max, true, List, [], ◌++◌, length, sym, refl, ap, ◌∙◌, subst, append_assoc, append-nil, arith, length-append}
 use Rattle.std.proofs.lemmas.List.{nil_from_length}
 use Rattle.syntax.specs.Arguments.{fits}
-use Rattle.layout.specs.Files.{forest_bytes, file_bytes}
-use Rattle.syntax.specs.Rules.{WellFormed, Rule}
+use Rattle.layout.specs.Files.{forest_bytes}
+use Rattle.syntax.specs.Rules.{WellFormed}
 use Rattle.syntax.specs.Kinds.{arity}
 use Rattle.layout.specs.Scans.{Begins, FileOf, HeightIsDepth, Measures, NoTrees, OneRule}
 use Rattle.layout.specs.SymbolBytes.{symbol_bytes}

@@ -1,6 +1,5 @@
 -- What a scan answers of a sheet file. Assumes nothing.
-use Rattle.std.specs.Prelude.{◌≡◌, ℕ, ◌+◌, ◌<◌, ◌≤◌, min, ◌⊎◌, List, ◌++◌, length, Some, Option, Result}
-use Rattle.std.specs.Option as options
+use Rattle.std.specs.Prelude.{◌≡◌, ℕ, ◌+◌, ◌<◌, ◌≤◌, min, ◌⊎◌, List, ◌++◌, length, Some, Result}
 use Rattle.std.specs.Result as results
 use Rattle.layout.specs.Files.{file_bytes, forest_bytes}
 use Rattle.syntax.specs.Rules.{Rule, WellFormed}

@@ -1,8 +1,7 @@
 -- The edits of a rule build it from a single hole. Assumes nothing.
-use Rattle.std.proofs.Common.{◌≡◌, ℕ, zero, suc, List, [], ◌∷◌, ◌++◌, map, sym, refl, ap, ◌∙◌, subst, arith}
+use Rattle.std.proofs.Common.{◌≡◌, ℕ, zero, suc, List, [], ◌∷◌, ◌++◌, map, sym, refl, ap, ◌∙◌}
 use Rattle.notation.specs.Edits.{hole, holes, alter, Put, put_at, puts, beneath, edits_from, edits, Rebuilds}
 use Rattle.syntax.specs.Rules.{WellFormed}
-use Rattle.syntax.specs.Kinds.{arity}
 use Rattle.syntax.specs.Trees.{Forest, none, grow, Tree, node, join, count}
 use Rattle.syntax.specs.declared.argument.Symbol.{Symbol}
 

@@ -1,8 +1,8 @@
 -- Parsing an argument is the inverse of printing it. Assumes nothing.
-use Rattle.std.proofs.Common.{◌≡◌, ℕ, ◌≤◌, Bool, true, cond, eqb, List, [], get_or, Some, None, Ok, Err, codes, decimal, unwrap_or, sym, refl, ap, ◌∙◌, arith}
+use Rattle.std.proofs.Common.{◌≡◌, ℕ, true, cond, eqb, List, [], get_or, Ok, Err, unwrap_or, sym, refl, ap, ◌∙◌, arith}
 use Rattle.std.proofs.lemmas.Fmt.{decimal_injective}
 use Rattle.layout.proofs.Prefixes.{nothing, number, name, label, same_name}
-use Rattle.notation.specs.ArgumentTexts.{argument_text, field_of, ParsesBack}
+use Rattle.notation.specs.ArgumentTexts.{argument_text, ParsesBack}
 use Rattle.syntax.specs.Arguments.{of_sort}
 use Rattle.syntax.specs.Labels.{label_word}
 use Rattle.syntax.specs.declared.argument.Argument.{Argument}

@@ -1,5 +1,5 @@
 -- How long the words and arguments of a line are. Assumes nothing.
-use Rattle.std.proofs.Common.{◌≡◌, ℕ, ◌+◌, ◌≤◌, true, List, [], ◌∷◌, ◌++◌, length, refl, ap, ◌∙◌, arith, length-append}
+use Rattle.std.proofs.Common.{◌≡◌, ℕ, ◌≤◌, true, List, length, refl, arith, length-append}
 use Rattle.std.proofs.lemmas.Bool.{false≢true, leb-true}
 use Rattle.notation.specs.ArgumentTexts.{field_of}
 use Rattle.syntax.specs.Arguments.{fits, of_sort, sound}

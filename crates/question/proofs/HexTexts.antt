@@ -1,7 +1,7 @@
 -- Bytes to digits, and digits to bytes. Assumes nothing.
-use Rattle.std.proofs.Common.{◌≡◌, ℕ, zero, suc, ◌+◌, ◌-◌, ◌*◌, ◌/◌, ◌%◌, ◌<◌, ◌≤◌, Bool, true, false, cond, not, ◌&&◌, ◌||◌, ltb, ◌⊎◌, List, [], ◌∷◌, ◌++◌, length, get_or, take, drop, set, sym, refl, ap, ◌∙◌, subst, ap₂, inl, inr, append_assoc, arith}
-use Rattle.std.proofs.lemmas.List.{drop_more, drop-drop, take_more, take_more_set, drop-set-lt, take-append-drop, take_all, length-take, length-take-le, length-append, length-drop, set_at, append-nil}
-use Rattle.std.proofs.lemmas.Bool.{and_parts, or_cases, or_left, or_right, false≢true, cases_Bool, le-ltb}
+use Rattle.std.proofs.Common.{◌≡◌, ℕ, ◌+◌, ◌*◌, ◌/◌, ◌%◌, ◌<◌, ◌≤◌, Bool, true, false, not, ◌&&◌, ◌||◌, ltb, ◌⊎◌, List, [], ◌∷◌, ◌++◌, length, get_or, take, drop, set, sym, refl, ap, ◌∙◌, subst, ap₂, inl, inr, append_assoc, arith}
+use Rattle.std.proofs.lemmas.List.{drop_more, drop-drop, take_more, take_more_set, drop-set-lt, take-append-drop, take_all, length-take-le, length-append, set_at, append-nil}
+use Rattle.std.proofs.lemmas.Bool.{and_parts, or_cases, or_right, false≢true, le-ltb}
 use Rattle.question.specs.Fields.{is_dash, is_empty, is_string}
 use Rattle.question.specs.Hex.{digit, hex, is_digit, is_hex, unhex, worth}
 

@@ -1,14 +1,13 @@
 -- Children's strings side by side in one buffer, as the parts of a question. Assumes nothing.
-use Rattle.std.proofs.Common.{◌≡◌, ℕ, ◌+◌, ◌-◌, ◌*◌, ◌<◌, ◌≤◌, Bool, true, false, cond, ◌&&◌, eqb, ltb, leb, List, [], ◌∷◌, ◌++◌, map, length, take, drop, is_some, Some, None, Option, sym, refl, ap, ◌∙◌, subst, ap₂, append_assoc, arith, Bor}
+use Rattle.std.proofs.Common.{◌≡◌, ℕ, ◌+◌, ◌-◌, ◌<◌, ◌≤◌, true, false, cond, eqb, List, [], ◌∷◌, ◌++◌, map, length, take, drop, is_some, Some, None, Option, sym, refl, ap, ◌∙◌, ap₂, append_assoc, arith, Bor}
 use borrow.Rule.Slice.PartMut.{put_mid, post_of}
-use Rattle.std.proofs.lemmas.List.{take-take, take_at, drop_at, length-append, length-take, length-map, append-nil, length-take-le}
-use Rattle.std.proofs.lemmas.Slice.{between_is, take-put_mid}
+use Rattle.std.proofs.lemmas.List.{take-take, take_at, drop_at, length-append, append-nil, length-take-le}
+use Rattle.std.proofs.lemmas.Slice.{between_is}
 use Rattle.std.proofs.lemmas.Bool.{lt-ltb, le-leb, ne_eqb, and_left, cond_both, false≢true}
 use Rattle.syntax.proofs.Codes.{arity_below}
 use Rattle.syntax.specs.Arguments.{fits}
-use Rattle.syntax.specs.Kinds.{arity}
 use Rattle.syntax.specs.declared.argument.Symbol.{Symbol}
-use Rattle.syntax.specs.declared.fault.Fault.TheVariants.{Misfit, MeterFull, ShortBuffer, Unlawful}
+use Rattle.syntax.specs.declared.fault.Fault.TheVariants.{Unlawful}
 use Rattle.reading.specs.Readings.{Meaning, allows_all, suits, refusal, meter_end}
 use Rattle.question.specs.Fields.{before, fields, fields_in}
 use Rattle.question.specs.Hex.{unhex}

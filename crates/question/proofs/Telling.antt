@@ -1,11 +1,11 @@
 -- What a question to a reading comes to where only its strings can be at fault. Assumes nothing.
-use Rattle.std.proofs.Common.{◌≡◌, ℕ, ◌<◌, ◌≤◌, Bool, true, false, cond, ◌⊎◌, List, ◌++◌, length, take, drop, Some, None, Ok, Err, Option, Result, sym, refl, ap, ◌∙◌, subst, inl, inr, arith, MatchResult}
+use Rattle.std.proofs.Common.{◌≡◌, ℕ, ◌<◌, ◌≤◌, Bool, true, false, cond, List, length, take, drop, Some, None, Ok, Err, Result, sym, refl, ap, ◌∙◌, arith, MatchResult}
 use Rattle.std.proofs.lemmas.List.{take_at}
-use Rattle.std.proofs.lemmas.Bool.{lt-ltb, le-leb, cases_Bool}
+use Rattle.std.proofs.lemmas.Bool.{lt-ltb, le-leb}
 use Rattle.syntax.specs.Arguments.{fits}
 use Rattle.syntax.specs.declared.argument.Symbol.{Symbol}
 use Rattle.syntax.specs.declared.fault.Fault.{Fault}
-use Rattle.syntax.specs.declared.fault.Fault.TheVariants.{Misfit, MeterFull, ShortBuffer, Unlawful}
+use Rattle.syntax.specs.declared.fault.Fault.TheVariants.{Unlawful}
 use Rattle.reading.specs.Readings.{Meaning, Sound, Asked, suits, refusal, meter_end}
 use Rattle.question.specs.Questions.{meaning_of}
 use Rattle.question.specs.declared.source.Source.{Source}

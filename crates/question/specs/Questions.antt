@@ -1,5 +1,5 @@
 -- What a line asks, and the answer to it. Assumes nothing.
-use Rattle.std.specs.Prelude.{◌≡◌, ℕ, ◌+◌, ◌/◌, ◌%◌, ◌<◌, ◌≤◌, Bool, true, false, cond, not, ◌&&◌, ◌⊎◌, List, [], ◌∷◌, ◌++◌, map, length, drop, Some, None, codes, MatchBool, Option, Result, MatchResult, ◌≢◌, nat_le, nat_lt}
+use Rattle.std.specs.Prelude.{◌≡◌, ℕ, ◌+◌, ◌/◌, ◌%◌, ◌<◌, ◌≤◌, true, cond, not, ◌&&◌, ◌⊎◌, List, [], ◌∷◌, ◌++◌, map, length, drop, Some, None, codes, MatchBool, Option, Result, MatchResult, ◌≢◌, nat_le, nat_lt}
 use Rattle.notation.specs.ArgumentTexts.{field_of}
 use Rattle.syntax.specs.Arguments.{fits}
 use Rattle.syntax.specs.Faults.{number_of}

@@ -1,25 +1,25 @@
 -- What a rule alone gives under the names reading lists its free names. Assumes nothing.
-use Rattle.std.proofs.Common.{◌≡◌, ℕ, zero, suc, ◌<◌, ◌≤◌, Bool, true, false, cond, eqb, ◌⊎◌, List, [], ◌∷◌, map, length, Some, None, Option, sym, refl, ap, ◌∙◌, subst, ap₂, inl, inr, arith}
+use Rattle.std.proofs.Common.{◌≡◌, ℕ, zero, suc, Bool, true, false, cond, ◌⊎◌, List, [], ◌∷◌, map, Some, None, Option, sym, refl, ap, ◌∙◌, subst, ap₂, inl, inr, arith}
 use Rattle.std.specs.List.{AllByRecursion}
-use Rattle.std.proofs.lemmas.Bool.{eq-eqb, ne_eqb, eqb-false, cases_eq, false≢true}
-use Rattle.syntax.specs.Arguments.{fits, of_sort}
-use Rattle.syntax.specs.Rules.{Rule, WellFormed}
+use Rattle.std.proofs.lemmas.Bool.{ne_eqb, eqb-false, false≢true}
+use Rattle.syntax.specs.Arguments.{of_sort}
+use Rattle.syntax.specs.Rules.{WellFormed}
 use Rattle.syntax.specs.Kinds.{arity, sort_of}
-use Rattle.syntax.specs.Trees.{Forest, none, grow, Tree, node, alone, child, count, subtree, under}
+use Rattle.syntax.specs.Trees.{Forest, none, grow, Tree, node, child, count, subtree, under}
 use Rattle.syntax.specs.declared.argument.Argument.{Argument}
 use Rattle.syntax.specs.declared.argument.Argument.TheVariants as argument
 use Rattle.syntax.specs.declared.argument.Symbol.{Symbol}
 use Rattle.syntax.specs.declared.kind.Kind.{Kind}
 use Rattle.syntax.specs.declared.kind.Kind.TheVariants.{Hole, Num, Var, Nil, Lam, Fix, Sel, App, Add, Ext, Ifz}
 use Rattle.syntax.specs.declared.name.Name.{Name}
-use Rattle.reading.specs.FreeNames.{FreeAt, FreeAmong, Free, Among, Crowded, Overfull, Lists, GivesFreeNames}
-use Rattle.reading.specs.NameStrings.{key, rising, listing, many, spelled}
-use Rattle.reading.specs.NamesRule.{add, add_own, binds, shows, collected, is_bound, join, merge, merge_all, name_in, named}
+use Rattle.reading.specs.FreeNames.{FreeAt, FreeAmong, Free, Crowded, Overfull, Lists, GivesFreeNames}
+use Rattle.reading.specs.NameStrings.{key, many, spelled}
+use Rattle.reading.specs.NamesRule.{add, add_own, binds, shows, is_bound, join, merge_all, named}
 use Rattle.reading.specs.Readings.{all_give, gives}
 use Rattle.reading.proofs.Gathering.{Gathers, Exactly, TooMany, Joined, Unbound, With, add_gathers, gathers_same, join_gathers}
 use Rattle.reading.proofs.NameKeys.{same_name, shorter_list}
-use Rattle.reading.specs.NameLists.{Valid, Good, add_good, join_good, merge_listing, rising_valid}
-use Rattle.reading.specs.NamesLaws.{ValidOwn, add_own_good, shown_valid}
+use Rattle.reading.specs.NameLists.{Valid, Good, join_good, merge_listing, rising_valid}
+use Rattle.reading.specs.NamesLaws.{add_own_good, shown_valid}
 
 -- what each tree of a list gives, as names and not as bytes
 abbrev merge_names : Option Name → List (Option (List Name)) → Option (List Name) → Option (List Name)

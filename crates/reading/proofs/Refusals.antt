@@ -1,12 +1,11 @@
 -- Why a question is refused, test by test. Assumes nothing.
-use Rattle.std.proofs.Common.{◌≡◌, ℕ, ◌+◌, ◌<◌, ◌≤◌, Bool, true, false, cond, ◌&&◌, eqb, ltb, leb, List, [], ◌∷◌, length, get_or, drop, Some, None, Option, sym, refl, ap, ◌∙◌, Bor}
+use Rattle.std.proofs.Common.{◌≡◌, ℕ, ◌+◌, ◌<◌, ◌≤◌, true, false, cond, ◌&&◌, eqb, List, length, get_or, drop, Some, None, sym, ap, ◌∙◌, Bor}
 use Rattle.std.proofs.lemmas.List.{drop_more, drop_all, length-map}
 use Rattle.std.proofs.lemmas.Bool.{lt-ltb, le-leb, eq-eqb, ne_eqb, and_from, and_left, and_right}
 use Rattle.syntax.specs.Arguments.{fits}
 use Rattle.syntax.specs.Kinds.{arity}
 use Rattle.syntax.specs.declared.argument.Symbol.{Symbol}
-use Rattle.syntax.specs.declared.fault.Fault.{Fault}
-use Rattle.syntax.specs.declared.fault.Fault.TheVariants.{Misfit, MeterFull, ShortBuffer, Unlawful}
+use Rattle.syntax.specs.declared.fault.Fault.TheVariants.{Unlawful}
 use Rattle.reading.specs.Readings.{Meaning, allows_all, suits, refusal, texts, meter_end}
 
 -- a test of each string goes on, or ends

@@ -1,14 +1,13 @@
 -- Names off bytes, four to a name, and onto them. Assumes nothing.
-use Rattle.std.specs.Prelude.{◌≡◌, ℕ, suc, ◌+◌, ◌*◌, ◌<◌, ◌≤◌, Bool, true, false, cond, ◌&&◌, List, [], ◌∷◌, ◌++◌, length, get_or, take, drop, Some, None, Option, slice_index, slice_index_or, slice_set, refl}
+use Rattle.std.specs.Prelude.{◌≡◌, ℕ, ◌+◌, ◌*◌, ◌<◌, ◌≤◌, Bool, true, false, cond, List, [], ◌∷◌, ◌++◌, length, get_or, take, drop, Some, None, slice_index, slice_index_or, slice_set, refl}
 use Rattle.std.proofs.Common.{sym, ap, ap₂, ◌∙◌, append_assoc, arith}
 use Rattle.std.specs.List.{flat_map}
-use Rattle.std.proofs.lemmas.List.{drop_more, drop_all, take_all, take_at, drop_at, take_more, take_more_set, length-set, length-append, append-nil, flat_map_more, drop-drop, take-append-drop, length-take, length-take-le, drop-set-lt}
+use Rattle.std.proofs.lemmas.List.{drop_more, drop_all, take_all, take_at, drop_at, take_more, take_more_set, length-set, length-append, append-nil, flat_map_more, drop-drop, take-append-drop, length-take, drop-set-lt}
 use Rattle.std.proofs.lemmas.Bool.{lt-ltb}
 use Rattle.layout.specs.Groups.{group}
 use Rattle.syntax.specs.Names.{is_name}
 use Rattle.syntax.specs.declared.name.Name.{Name}
 use Rattle.reading.specs.NameStrings.{key, fours, rising, listing, spelled}
-use Rattle.reading.specs.NamesRule.{join, add, is_bound}
 
 pub fours_full : (h rest : List ℕ) → length h ≡ 4 → fours (h ++ rest) ≡ record { 0 = h } ∷ fours rest
 fours_full (a ∷ b ∷ c ∷ d ∷ []) rest e = refl

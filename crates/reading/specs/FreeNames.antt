@@ -2,7 +2,7 @@
 -- Assumes nothing.
 use Rattle.std.specs.Prelude.{◌≡◌, ℕ, ◌<◌, true, ◌⊎◌, List, [], ◌∷◌, length, Some, ◌≢◌}
 use Rattle.syntax.specs.Rules.{Rule}
-use Rattle.syntax.specs.Trees.{Forest, none, grow, Tree, node, alone, subtree}
+use Rattle.syntax.specs.Trees.{Forest, none, grow, Tree, node, subtree}
 use Rattle.syntax.specs.declared.argument.Argument.TheVariants as argument
 use Rattle.syntax.specs.declared.argument.Symbol.{Symbol}
 use Rattle.syntax.specs.declared.kind.Kind.{Kind}

@@ -1,5 +1,5 @@
 -- Rising names, and the strings that list them. Assumes nothing.
-use Rattle.std.specs.Prelude.{◌≡◌, ℕ, zero, suc, ◌+◌, ◌*◌, ◌<◌, ◌≤◌, Bool, true, false, cond, ◌&&◌, ◌⊎◌, List, [], ◌∷◌, ◌++◌, length, Some, None, Option, ◌==◌, nat_le, nat_lt, refl}
+use Rattle.std.specs.Prelude.{◌≡◌, ℕ, zero, suc, ◌*◌, ◌<◌, ◌≤◌, true, false, cond, ◌&&◌, ◌⊎◌, List, [], ◌∷◌, length, Some, None, Option, ◌==◌, nat_le, nat_lt, refl}
 use Rattle.std.proofs.Common.{sym, ap, ap₂, subst, ◌∙◌, inl, inr, arith}
 use Rattle.std.specs.List.{flat_map, AllByRecursion}
 use Rattle.std.specs.Char.{is_ascii_lowercase}
@@ -9,7 +9,7 @@ use Rattle.syntax.proofs.Letters.{named}
 use Rattle.syntax.specs.Names.{is_name, letters}
 use Rattle.syntax.specs.declared.name.Name.{Name}
 use Rattle.reading.specs.NameStrings.{key, rising, listing, many, spelled, fours, lists, is_empty, allowed}
-use Rattle.reading.specs.NamesRule.{insert, held, add, is_bound, join, merge, merge_all}
+use Rattle.reading.specs.NamesRule.{insert, add, is_bound, join, merge}
 use Rattle.reading.specs.Fours.{fours_full, listing_is}
 use Rattle.reading.specs.Inserting.{insert_same, insert_below, insert_above}
 

@@ -1,6 +1,6 @@
 -- The names reading keeps the laws of readings. Assumes nothing.
-use Rattle.std.specs.Prelude.{◌≡◌, ℕ, ◌+◌, ◌<◌, ◌≤◌, true, ◌&&◌, List, [], ◌∷◌, length, drop, Some, None, Option, ◌==◌, slice_index_or, refl}
-use Rattle.std.proofs.Common.{sym, ap, ap₂, ◌∙◌, arith}
+use Rattle.std.specs.Prelude.{◌≡◌, ℕ, ◌+◌, ◌<◌, ◌≤◌, true, List, [], ◌∷◌, length, drop, Some, None, Option, ◌==◌, slice_index_or, refl}
+use Rattle.std.proofs.Common.{ap, arith}
 use Rattle.std.specs.Borrow.{Bor}
 use Rattle.std.proofs.lemmas.List.{drop_more, drop_all}
 use Rattle.std.proofs.lemmas.Bool.{and_parts}
@@ -13,8 +13,8 @@ use Rattle.syntax.specs.declared.kind.Kind.{Kind}
 use Rattle.syntax.specs.declared.kind.Kind.TheVariants.{Hole, Num, Var, Nil, Lam, Fix, Sel, App, Add, Ext, Ifz}
 use Rattle.syntax.specs.declared.name.Name.{Name}
 use Rattle.reading.specs.NameStrings.{allowed}
-use Rattle.reading.specs.NamesRule.{add, merge, merge_all, add_own, shows, binds, collected, named}
-use Rattle.reading.specs.Readings.{Sound, allows_all, suits, texts}
+use Rattle.reading.specs.NamesRule.{merge, merge_all, add_own, shows, binds, collected, named}
+use Rattle.reading.specs.Readings.{Sound, allows_all, texts}
 use Rattle.reading.specs.NameLists.{Valid, Good, add_good, merge_good, spelled_allowed, allowed_within}
 
 -- children's names are merged one by one

@@ -1,6 +1,6 @@
 -- The letters and the padding of a name. Assumes nothing.
-use Rattle.std.proofs.Common.{◌≡◌, ℕ, ◌+◌, ◌-◌, ◌<◌, ◌≤◌, Bool, true, false, ◌&&◌, eqb, ltb, List, [], ◌∷◌, ◌++◌, length, get_or, take, drop, replicate, sym, refl, ap, ◌∙◌, ap₂, suc-le-suc, zero-le, arith}
-use Rattle.std.proofs.lemmas.List.{drop_more, drop_all, length-drop, take-append-drop, take_at, drop-replicate}
+use Rattle.std.proofs.Common.{◌≡◌, ℕ, ◌+◌, ◌-◌, ◌<◌, ◌≤◌, true, false, ◌&&◌, eqb, ltb, List, [], ◌∷◌, ◌++◌, length, get_or, take, drop, replicate, sym, refl, ap, ◌∙◌, ap₂, suc-le-suc, zero-le, arith}
+use Rattle.std.proofs.lemmas.List.{drop_more, length-drop, take-append-drop, take_at, drop-replicate}
 use borrow.Rule.Slice.PartMut.{post_of}
 use native.Mathlib.Nat.{sub-zero}
 use Rattle.std.proofs.lemmas.Bool.{and_parts, eqb-true, ltb-true, eq-eqb, ne_eqb, lt-ltb, le-ltb, and_right, cond_both}

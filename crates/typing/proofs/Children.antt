@@ -1,17 +1,16 @@
 -- The pairs of the children, as values of the joined variables: from values to pairs and back.
 -- Assumes nothing.
-use Rattle.std.proofs.Common.{◌≡◌, ℕ, zero, suc, ◌+◌, ◌<◌, ◌≤◌, Bool, true, false, cond, List, [], ◌∷◌, ◌++◌, length, get_or, Some, None, sym, refl, ap, ◌∙◌, subst, ap₂, arith}
-use Rattle.typing.specs.Constraints.{width, Joined, joined, type_at}
-use Rattle.typing.specs.Forms.{Name, Context, Grounded, Form, hole_form, Agrees, Stands, entry_variables, form_variables}
+use Rattle.std.proofs.Common.{◌≡◌, ℕ, zero, suc, ◌+◌, ◌<◌, ◌≤◌, Bool, true, false, cond, List, [], ◌∷◌, length, sym, refl, ap, ◌∙◌, subst, arith}
+use Rattle.typing.specs.Constraints.{width, joined, type_at}
+use Rattle.typing.specs.Forms.{Context, Grounded, Form, hole_form, Agrees, Stands, entry_variables, form_variables}
 use Rattle.typing.specs.Heads.{Sort, type, place}
 use Rattle.typing.specs.Solve.{member}
 use Rattle.typing.specs.Solved.{Holds}
-use Rattle.typing.specs.Strings.{Types}
-use Rattle.typing.specs.Terms.{Term, var, head, ◌·◌, num, absent, fill, variables, Sorted, GroundType}
+use Rattle.typing.specs.Terms.{Term, num, absent, fill, variables, Sorted, GroundType}
 use Rattle.typing.proofs.Joining.{form_above, form_at, offset, own, splice, splice_own, splice_rest, splice_both, joined_from, Child, joined_onto, joined_back, joined_type}
 use Rattle.typing.proofs.Renaming.{Each, each_append, each_map, fill_alike}
 use Rattle.typing.proofs.SolvingSorted.{types_unfill, agrees_alike, each_member, each_self}
-use Rattle.typing.proofs.Sorting.{fill_sorted, unfill_sorted, each_join, each_true}
+use Rattle.typing.proofs.Sorting.{fill_sorted, unfill_sorted, each_join}
 
 -- no variables: sorted and ground
 abbrev pub Ground : ℕ → Sort → Term → Type 0

@@ -1,25 +1,24 @@
 -- Closed and clean: the figures of a tree are all zero exactly if it is well typed in the empty
 -- context. Assumes nothing.
-use Rattle.std.proofs.Common.{◌≡◌, ℕ, zero, suc, ◌+◌, ◌<◌, ◌≤◌, min, Bool, true, false, List, [], ◌∷◌, map, length, get_or, Some, None, Option, sym, refl, ap, ◌∙◌, subst, ap₂, arith}
-use Rattle.syntax.specs.Arguments.{fits}
+use Rattle.std.proofs.Common.{◌≡◌, ℕ, zero, suc, ◌<◌, ◌≤◌, min, List, [], ◌∷◌, Some, None, sym, refl, ap, subst, ap₂, arith}
 use Rattle.syntax.specs.Rules.{WellFormed}
 use Rattle.syntax.specs.Kinds.{arity}
-use Rattle.syntax.specs.Trees.{Forest, none, grow, Tree, node, count, child, alone}
+use Rattle.syntax.specs.Trees.{Forest, none, grow, Tree, node, count, alone}
 use Rattle.syntax.specs.declared.argument.Argument.{Argument}
 use Rattle.syntax.specs.declared.argument.Argument.TheVariants as argument
 use Rattle.syntax.specs.declared.argument.Symbol.{Symbol}
 use Rattle.syntax.specs.declared.kind.Kind.{Kind}
 use Rattle.syntax.specs.declared.kind.Kind.TheVariants.{Hole, Num, Var, Nil, Lam, Fix, Sel, App, Add, Ext, Ifz}
 use Rattle.typing.specs.Forms.{Name, Context, Grounded, Form, nothing, given, Agrees, Stands}
-use Rattle.typing.specs.Judgements.{Inhabited, IsFormOf, Judges}
+use Rattle.typing.specs.Judgements.{IsFormOf, Judges}
 use Rattle.typing.specs.Rules.{Pairs, Rule, Has}
 use Rattle.typing.specs.Strings.{Status, formed, clashed, overlong, Typing, most}
 use Rattle.typing.specs.Terms.{Term, num, fun, rec, GroundType, fill}
-use Rattle.typing.specs.TreeTypings.{kept_or, mended, tree_typing, clashes_in, overlongs_in, holes_in, Clean, WellTyped, Instance, Closed, ClosedAndClean}
+use Rattle.typing.specs.TreeTypings.{kept_or, mended, tree_typing, clashes_in, overlongs_in, holes_in, Clean, WellTyped, Instance, ClosedAndClean}
 use Rattle.typing.specs.Typings.{is_clash, is_overlong, node_status, typings}
 use Rattle.typing.proofs.LamRule.{given_grounded}
 use Rattle.typing.proofs.NodeRule.{form_inhabited}
-use Rattle.typing.proofs.Relation.{has_ground, HasAt, HasIn, has_rule}
+use Rattle.typing.proofs.Relation.{has_ground, HasAt, has_rule}
 use Rattle.typing.proofs.TreeRule.{most_general, is_counted}
 
 pub nothing_grounded : (labels : ℕ) → Grounded labels nothing

@@ -1,16 +1,16 @@
 -- Joining the forms of the children: their entries are put together in the order of the names, and
 -- entries of one name give equations. Assumes nothing.
-use Rattle.std.proofs.Common.{◌≡◌, ℕ, zero, suc, ◌+◌, ◌-◌, ◌<◌, ◌≤◌, max, Bool, true, false, cond, ltb, ◌⊎◌, List, [], ◌∷◌, ◌++◌, length, get_or, Some, None, Option, sym, refl, ap, ◌∙◌, subst, ap₂, inl, inr, arith}
+use Rattle.std.proofs.Common.{◌≡◌, ℕ, zero, suc, ◌+◌, ◌-◌, ◌<◌, ◌≤◌, max, Bool, true, false, cond, ltb, List, [], ◌∷◌, ◌++◌, length, get_or, Some, sym, refl, ap, ◌∙◌, arith}
 use Rattle.std.proofs.lemmas.Bool.{lt-ltb, le-ltb}
 use Rattle.syntax.specs.Names.{is_name}
 use Rattle.typing.specs.Constraints.{Entries, insert, insert_all, above, width, shifted, Joined, joined, type_at}
 use Rattle.typing.specs.Forms.{Name, Context, Form, hole_form, same, Agrees, entry_variables, form_variables}
-use Rattle.typing.specs.Heads.{Sort, type, place}
-use Rattle.typing.specs.Solve.{Equations, renamed_entries, filled}
+use Rattle.typing.specs.Heads.{Sort, type}
+use Rattle.typing.specs.Solve.{Equations, renamed_entries}
 use Rattle.typing.specs.Solved.{Holds, Bounded, AllBounded, EntriesBounded, EquationsSorted}
 use Rattle.typing.specs.Strings.{before, Ahead, Rising, Types}
 use Rattle.typing.specs.Terms.{Term, var, head, ◌·◌, num, fill, variables, Sorted}
-use Rattle.typing.proofs.Laying.{bounded_more, all_bounded_more}
+use Rattle.typing.proofs.Laying.{bounded_more}
 use Rattle.typing.proofs.NamesOrder.{same_true, before_total}
 use Rattle.typing.proofs.Renaming.{Each, each_append, each_map, fill_fill}
 use Rattle.typing.proofs.SolvingSorted.{types_fill, agrees_renamed}

@@ -1,6 +1,6 @@
 -- For each kind, the solutions of its constraints are the pairs that satisfy its rule over the pairs
 -- of the children. Assumes nothing.
-use Rattle.std.proofs.Common.{◌≡◌, ℕ, zero, suc, ◌+◌, ◌-◌, ◌<◌, ◌≤◌, Bool, true, false, cond, eqb, ◌⊎◌, List, [], ◌∷◌, ◌++◌, map, length, get_or, set, replicate, Some, None, Option, sym, refl, ap, ◌∙◌, subst, ap₂, inl, inr, arith}
+use Rattle.std.proofs.Common.{◌≡◌, ℕ, zero, suc, ◌+◌, ◌-◌, ◌<◌, ◌≤◌, true, false, cond, eqb, List, [], ◌∷◌, map, length, get_or, set, replicate, Some, sym, refl, ap, ◌∙◌, subst, ap₂, arith}
 use lib.ListN.{length-map}
 use Rattle.std.proofs.lemmas.List.{set-get_or, map-set, get_or-set_same}
 use Rattle.std.proofs.lemmas.Bool.{eq-eqb, ne_eqb}
@@ -8,22 +8,20 @@ use Rattle.syntax.specs.Labels.{label_code}
 use Rattle.syntax.specs.declared.argument.Argument.{Argument}
 use Rattle.syntax.specs.declared.argument.Argument.TheVariants as argument
 use Rattle.syntax.specs.declared.kind.Kind.{Kind}
-use Rattle.syntax.specs.declared.kind.Kind.TheVariants.{Hole, Num, Var, Nil, Lam, Fix, Sel, App, Add, Ext, Ifz}
+use Rattle.syntax.specs.declared.kind.Kind.TheVariants.{Hole, Num, Var, Nil, Fix, Sel, App, Add, Ext, Ifz}
 use Rattle.syntax.specs.declared.label.Label.{Label}
 use Rattle.syntax.specs.declared.name.Name as name
-use Rattle.typing.specs.Constraints.{Entries, name_of, label_of, without, type_of, fresh, Joined, joined, type_at, posed, constraints}
-use Rattle.typing.specs.Forms.{Name, Context, Grounded, Form, hole_form, same, given, Agrees, Stands}
+use Rattle.typing.specs.Constraints.{fresh, Joined, joined, type_at, posed, constraints}
+use Rattle.typing.specs.Forms.{Context, Grounded, Form, Stands}
 use Rattle.typing.specs.Heads.{Sort, type, place}
 use Rattle.typing.specs.Rules.{Rule}
-use Rattle.typing.specs.Solve.{Equations, Problem}
-use Rattle.typing.specs.Solved.{Holds, Bounded, AllBounded, EntriesBounded, Posed, EquationsSorted, WellSorted, Satisfies}
-use Rattle.typing.specs.Strings.{Ahead, Rising, Types}
-use Rattle.typing.specs.Terms.{Term, var, head, ◌·◌, num, fun, rec, absent, present, fill, Sorted, GroundType}
-use Rattle.typing.proofs.Children.{Ground, some_term, some_ground, hole_stands, sorts_with, child_stands, Values, children_values}
-use Rattle.typing.proofs.Joining.{form_at, splice_rest, Child, JoinBounded, joined_bounded, JoinSorted, joined_sorted, joined_rising, holds_append, holds_parts, all_bounded_append, equations_append, entries_bounded_more}
+use Rattle.typing.specs.Solve.{Equations}
+use Rattle.typing.specs.Solved.{Holds, Bounded, AllBounded, Posed, EquationsSorted, WellSorted, Satisfies}
+use Rattle.typing.specs.Terms.{Term, var, num, fun, rec, absent, present, fill, Sorted, GroundType}
+use Rattle.typing.proofs.Children.{Ground, hole_stands, sorts_with, child_stands, Values, children_values}
+use Rattle.typing.proofs.Joining.{form_at, splice_rest, Child, joined_bounded, joined_sorted, holds_append, holds_parts, all_bounded_append, equations_append, entries_bounded_more}
 use Rattle.typing.proofs.Laying.{bounded_more, all_bounded_more}
-use Rattle.typing.proofs.NamesOrder.{same_true, same_refl, Unlisted, ahead_unlisted}
-use Rattle.typing.proofs.Records.{fill_rec, EachSorted, rec_sorted, rec_places, places_long, place_at, place_set, present_sorted, present_part, absent_places, absent_filled, fresh_values, fresh_sorted, fresh_long, EachBounded, fresh_bounded, set_bounded, applied_bounded, replicate_bounded}
+use Rattle.typing.proofs.Records.{fill_rec, EachSorted, rec_sorted, rec_places, places_long, place_at, place_set, present_sorted, absent_places, absent_filled, fresh_values, fresh_sorted, fresh_long, EachBounded, fresh_bounded, set_bounded, applied_bounded, replicate_bounded}
 
 pub record Ruled (labels : ℕ) (k : Kind) (a : Argument) (Fs : List Form) : Type 0 where
   pub posed : Posed (constraints labels k a (joined 0 Fs))

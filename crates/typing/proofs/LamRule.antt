@@ -1,6 +1,6 @@
 -- The rule of lam: its name is taken out of the entries, and has the type that it had there, or any.
 -- Assumes nothing.
-use Rattle.std.proofs.Common.{◌≡◌, ℕ, zero, suc, ◌+◌, ◌<◌, ◌≤◌, Bool, true, false, cond, List, [], ◌∷◌, length, Some, None, Option, sym, refl, ap, ◌∙◌, subst, ap₂, arith}
+use Rattle.std.proofs.Common.{◌≡◌, ℕ, ◌+◌, ◌≤◌, Bool, true, false, cond, [], ◌∷◌, Some, sym, refl, ap, ◌∙◌, subst, ap₂, arith}
 use Rattle.syntax.specs.declared.argument.Argument.TheVariants as argument
 use Rattle.syntax.specs.declared.kind.Kind.TheVariants.{Lam}
 use Rattle.syntax.specs.declared.name.Name as name
@@ -12,7 +12,7 @@ use Rattle.typing.specs.Solve.{Problem}
 use Rattle.typing.specs.Solved.{Bounded, EntriesBounded, Posed, WellSorted, Satisfies}
 use Rattle.typing.specs.Strings.{before, Ahead, Rising, Types}
 use Rattle.typing.specs.Terms.{Term, var, fun, fill, Sorted, GroundType}
-use Rattle.typing.proofs.Children.{Ground, sorts_with, child_stands, Values, children_values}
+use Rattle.typing.proofs.Children.{sorts_with, child_stands, children_values}
 use Rattle.typing.proofs.Joining.{form_at, splice_rest, Child, joined_bounded, joined_sorted, joined_rising, entries_bounded_more}
 use Rattle.typing.proofs.KindRules.{Ruled, fun_sorted, fun_parts, types₁, stands₁}
 use Rattle.typing.proofs.Laying.{bounded_more, all_bounded_more}

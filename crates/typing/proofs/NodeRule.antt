@@ -1,14 +1,13 @@
 -- The rule is the rules: the status of a node, over the pairs of its children. Assumes nothing.
-use Rattle.std.proofs.Common.{◌≡◌, ℕ, zero, suc, ◌+◌, ◌<◌, ◌≤◌, Bool, true, false, cond, leb, List, [], ◌∷◌, map, length, get_or, replicate, Some, None, Option, sym, refl, ap, ◌∙◌, subst, ap₂, arith}
+use Rattle.std.proofs.Common.{◌≡◌, ℕ, zero, suc, ◌<◌, ◌≤◌, Bool, true, false, cond, leb, List, [], ◌∷◌, map, length, replicate, Some, None, Option, refl, ◌∙◌, subst, arith}
 use lib.ListN.{length-map}
 use Rattle.std.proofs.lemmas.Bool.{both_ways, leb-true, leb-false}
-use Rattle.syntax.specs.Arguments.{of_sort, fits}
+use Rattle.syntax.specs.Arguments.{of_sort}
 use Rattle.syntax.specs.Kinds.{arity, sort_of}
 use Rattle.syntax.specs.Labels.{label_code}
 use Rattle.syntax.specs.Names.{is_name}
 use Rattle.syntax.specs.declared.argument.Argument.{Argument}
 use Rattle.syntax.specs.declared.argument.Argument.TheVariants as argument
-use Rattle.syntax.specs.declared.argument.Symbol.{Symbol}
 use Rattle.syntax.specs.declared.kind.Kind.{Kind}
 use Rattle.syntax.specs.declared.kind.Kind.TheVariants.{Hole, Num, Var, Nil, Lam, Fix, Sel, App, Add, Ext, Ifz}
 use Rattle.syntax.specs.declared.kind.Sort.TheVariants as sort
@@ -17,15 +16,15 @@ use Rattle.syntax.specs.declared.label.Label.TheVariants.{Row, Col, Ink, Lit}
 use Rattle.syntax.specs.declared.name.Name as name
 use Rattle.typing.specs.Cells.{Graph, free, unify, acyclic, term_of}
 use Rattle.typing.specs.Constraints.{Entries, joined, constraints}
-use Rattle.typing.specs.Forms.{Name, Context, Grounded, Form, hole_form, given, Agrees, Stands, form_variables}
-use Rattle.typing.specs.Heads.{Sort, type, place}
-use Rattle.typing.specs.Judgements.{Inhabited, IsFormOf, Judges, GoodTypings, pairs_of, RuleIsTheRules}
+use Rattle.typing.specs.Forms.{Name, Context, Grounded, Form, hole_form, given, Stands, form_variables}
+use Rattle.typing.specs.Heads.{Sort, type}
+use Rattle.typing.specs.Judgements.{IsFormOf, Judges, GoodTypings, RuleIsTheRules}
 use Rattle.typing.specs.Rules.{Pairs, Rule}
 use Rattle.typing.specs.Solve.{Problem, lay_all, renamed_entries, filled, canonical, finished, solve}
-use Rattle.typing.specs.Solved.{Exact, AnswersSorted, Satisfies}
-use Rattle.typing.specs.Strings.{Rising, Types, Numbered, Sound, Good, Status, formed, clashed, overlong, Typing, GoodTyping, GoodStatus, form_bytes, longest}
-use Rattle.typing.specs.Terms.{Term, var, fill, Sorted, GroundType}
-use Rattle.typing.specs.Typings.{form_of, status_of, node_status}
+use Rattle.typing.specs.Solved.{Exact, AnswersSorted}
+use Rattle.typing.specs.Strings.{Rising, Types, Numbered, Sound, Status, formed, clashed, overlong, Typing, GoodStatus, form_bytes, longest}
+use Rattle.typing.specs.Terms.{Term, fill}
+use Rattle.typing.specs.Typings.{form_of, status_of}
 use Rattle.typing.proofs.Children.{Ground, some_term, some_ground}
 use Rattle.typing.proofs.Joining.{form_at, Child, joined_rising, renamed_rising}
 use Rattle.typing.proofs.KindRules.{Ruled, hole_ruled, num_ruled, var_ruled, nil_ruled, app_ruled, add_ruled, ifz_ruled, ext_ruled, fix_ruled, sel_ruled}

@@ -1,14 +1,14 @@
 -- The occurs check: a graph that fails it has no solution, and in one that passes it every cell
 -- stands for a term, which is a most general solution. Assumes nothing.
-use Rattle.std.proofs.Common.{◌≡◌, ℕ, zero, suc, ◌+◌, ◌<◌, ◌≤◌, Bool, true, false, ◌&&◌, ◌⊎◌, List, [], ◌∷◌, length, get_or, set, replicate, sym, refl, ap, ◌∙◌, subst, ap₂, inl, inr, arith, length-set}
+use Rattle.std.proofs.Common.{◌≡◌, ℕ, zero, suc, ◌+◌, ◌<◌, ◌≤◌, Bool, true, false, ◌⊎◌, List, [], ◌∷◌, length, get_or, set, replicate, sym, refl, ap, ◌∙◌, subst, ap₂, inl, inr, arith, length-set}
 use lib.ListN.{length-replicate}
-use Rattle.std.proofs.lemmas.List.{get_or-set_same, get_or-set_other, get_or_past, set_past}
+use Rattle.std.proofs.lemmas.List.{get_or-set_other, get_or_past}
 use Rattle.std.proofs.lemmas.Bool.{cases_lt, cases_eq, and_from, and_parts, both_ways}
 use Rattle.typing.specs.Cells.{Cell, free, link, atom, apply, Graph, cell, find, below, grounded, every, acyclic, unroll, readback, term_of}
-use Rattle.typing.specs.Solutions.{Fits, Solves, Proper, Tidy, NotLink}
+use Rattle.typing.specs.Solutions.{Fits, Solves, Tidy, NotLink}
 use Rattle.typing.specs.Terms.{Term, var, head, ◌·◌, fill}
 use Rattle.typing.specs.Walks.{size}
-use Rattle.typing.proofs.Finding.{find_value, find_root, find_down, find_stays, find_link}
+use Rattle.typing.proofs.Finding.{find_value, find_stays, find_link}
 
 pub size_some : (t : Term) → 1 ≤ size t
 size_some (var k) = omega arith

@@ -1,12 +1,11 @@
 -- Record types: their places, filling them, and variables for all places. Assumes nothing.
-use Rattle.std.proofs.Common.{◌≡◌, ℕ, zero, suc, ◌+◌, ◌<◌, ◌≤◌, List, [], ◌∷◌, ◌++◌, map, length, get_or, set, replicate, sym, refl, ap, ◌∙◌, subst, ap₂, arith, length-set}
-use lib.ListN.{length-replicate, length-map}
-use Rattle.std.proofs.lemmas.List.{append-nil, set-get_or, map-set, get_or-set_same}
+use Rattle.std.proofs.Common.{◌≡◌, ℕ, zero, suc, ◌+◌, ◌<◌, ◌≤◌, List, [], ◌∷◌, ◌++◌, map, length, get_or, set, replicate, sym, refl, ap, ◌∙◌, subst, ap₂, arith}
+use Rattle.std.proofs.lemmas.List.{append-nil}
 use Rattle.typing.specs.Constraints.{fresh}
-use Rattle.typing.specs.Heads.{Sort, type, place, result_of, parts_of}
+use Rattle.typing.specs.Heads.{Sort, type, place}
 use Rattle.typing.specs.Solved.{Bounded}
-use Rattle.typing.specs.Terms.{Term, var, head, ◌·◌, applied, rec, absent, present, fill, Sorted}
-use Rattle.typing.specs.declared.head.Head.TheVariants.{Rec, Absent, Present}
+use Rattle.typing.specs.Terms.{Term, head, ◌·◌, applied, rec, absent, present, fill, Sorted}
+use Rattle.typing.specs.declared.head.Head.TheVariants.{Rec}
 
 pub fill_applied : (ρ : ℕ → Term) (t : Term) (xs : List Term) → fill ρ (applied t xs) ≡ applied (fill ρ t) (map (fill ρ) xs)
 fill_applied ρ t [] = refl

@@ -1,5 +1,5 @@
 -- The typing relation and the rules of the kinds say the same. Assumes nothing.
-use Rattle.std.proofs.Common.{◌≡◌, ℕ, zero, suc, ◌+◌, ◌<◌, ◌≤◌, Bool, true, false, List, [], ◌∷◌, length, get_or, set, replicate, Some, None, Option, sym, refl, ap, ◌∙◌, subst, ap₂, arith}
+use Rattle.std.proofs.Common.{◌≡◌, ℕ, ◌<◌, true, false, set, replicate, Some, None, Option, sym, refl, subst, arith}
 use Rattle.std.proofs.lemmas.Bool.{both_ways}
 use Rattle.syntax.specs.Arguments.{of_sort}
 use Rattle.syntax.specs.Kinds.{arity, sort_of}
@@ -11,11 +11,9 @@ use Rattle.syntax.specs.declared.argument.Symbol.{Symbol}
 use Rattle.syntax.specs.declared.kind.Kind.{Kind}
 use Rattle.syntax.specs.declared.kind.Kind.TheVariants.{Hole, Num, Var, Nil, Lam, Fix, Sel, App, Add, Ext, Ifz}
 use Rattle.syntax.specs.declared.kind.Sort.TheVariants as sort
-use Rattle.syntax.specs.declared.label.Label.{Label}
-use Rattle.syntax.specs.declared.name.Name as name
-use Rattle.typing.specs.Forms.{Name, Context, Grounded, given}
-use Rattle.typing.specs.Heads.{type, place}
-use Rattle.typing.specs.Rules.{Pairs, Rule, Has, hole, number, variable, nil, lam, fix, sel, app, add, ext, ifz, with, leaf, beside, over, over2, over3}
+use Rattle.typing.specs.Forms.{Context, Grounded, given}
+use Rattle.typing.specs.Heads.{place}
+use Rattle.typing.specs.Rules.{Pairs, Rule, Has, hole, number, variable, nil, lam, fix, sel, app, add, ext, ifz, with, beside}
 use Rattle.typing.specs.Terms.{Term, num, fun, rec, absent, present, GroundType}
 use Rattle.typing.proofs.Children.{Ground}
 use Rattle.typing.proofs.KindRules.{fun_sorted, fun_parts}

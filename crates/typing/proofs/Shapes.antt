@@ -1,9 +1,9 @@
 -- Sorts are kept by merging: cells that are merged have one shape, so what is read back is sorted.
 -- Assumes nothing.
-use Rattle.std.proofs.Common.{◌≡◌, ℕ, zero, suc, ◌+◌, ◌<◌, ◌≤◌, min, max, Bool, true, false, cond, eqb, ◌⊎◌, List, [], ◌∷◌, ◌++◌, length, get_or, set, Some, None, Option, sym, refl, ap, ◌∙◌, subst, ap₂, inl, inr, arith, length-set}
-use Rattle.std.proofs.lemmas.Bool.{both_ways, and_parts, eqb-true, eqb-false}
-use Rattle.typing.specs.Cells.{Cell, free, link, atom, apply, Graph, Pairs, cell, hop, chase, find, meet, Outcome, clash, solved, more, linked, settle, unite, step, after, run, unify, below, grounded, every, acyclic, unroll, readback, term_of}
-use Rattle.typing.specs.Heads.{Sort, type, place, result_of, parts_of, token_of}
+use Rattle.std.proofs.Common.{◌≡◌, ℕ, zero, suc, ◌+◌, ◌<◌, ◌≤◌, min, max, Bool, true, false, cond, eqb, List, [], ◌∷◌, ◌++◌, length, get_or, set, Some, None, Option, sym, refl, ap, ◌∙◌, subst, ap₂, arith, length-set}
+use Rattle.std.proofs.lemmas.Bool.{both_ways, and_parts}
+use Rattle.typing.specs.Cells.{Cell, free, link, atom, apply, Graph, Pairs, cell, hop, chase, find, meet, Outcome, clash, solved, more, linked, settle, unite, step, after, run, below, grounded, acyclic, unroll, readback, term_of}
+use Rattle.typing.specs.Heads.{Sort, result_of, parts_of, token_of}
 use Rattle.typing.specs.Solutions.{Fits, Solves, Equal, Proper, Tidy, Within, NotLink}
 use Rattle.typing.specs.Terms.{Term, var, head, ◌·◌, Sorted}
 use Rattle.typing.proofs.Finding.{find_value, find_root, find_down, every_set}

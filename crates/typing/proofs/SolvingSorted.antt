@@ -1,22 +1,20 @@
 -- Solving a sorted problem: the form found is sorted, and stands for just the pairs of context and
 -- ground type that satisfy the problem. Assumes nothing.
-use Rattle.std.proofs.Common.{◌≡◌, ℕ, zero, suc, ◌+◌, ◌<◌, ◌≤◌, Bool, true, false, cond, ◌||◌, eqb, ◌⊎◌, List, [], ◌∷◌, ◌++◌, length, get_or, replicate, Some, None, Option, sym, refl, ap, ◌∙◌, subst, ap₂, inl, inr, arith}
-use lib.ListN.{length-replicate}
+use Rattle.std.proofs.Common.{◌≡◌, ℕ, ◌<◌, Bool, true, false, cond, eqb, ◌⊎◌, List, [], ◌∷◌, length, get_or, replicate, Some, None, Option, sym, refl, ap, ◌∙◌, subst, inl, inr, arith}
 use Rattle.std.proofs.lemmas.Bool.{both_ways, eqb-true, eq-eqb, or_cases, or_left, or_right}
-use Rattle.typing.specs.Cells.{Cell, free, Graph, Pairs, cell, unify, acyclic, term_of}
+use Rattle.typing.specs.Cells.{free, Graph, unify, acyclic, term_of}
 use Rattle.typing.specs.Forms.{Name, Context, Grounded, Form, Agrees, Stands, entry_variables, form_variables}
 use Rattle.typing.specs.Heads.{Sort, type, place}
-use Rattle.typing.specs.Solutions.{Solves, Equal, Tidy}
-use Rattle.typing.specs.Solve.{Equations, Problem, renamed_entries, filled, member, distinct, position, canonical, finished, solve}
-use Rattle.typing.specs.Solved.{Holds, Bounded, AllBounded, EntriesBounded, Posed, Answers, EquationsSorted, WellSorted, Satisfies, Exact, AnswersSorted, SolvesExactlySorted}
+use Rattle.typing.specs.Solutions.{Solves, Equal}
+use Rattle.typing.specs.Solve.{Problem, renamed_entries, filled, member, distinct, position, canonical, finished}
+use Rattle.typing.specs.Solved.{Bounded, AllBounded, EntriesBounded, Posed, Answers, WellSorted, Satisfies, Exact, AnswersSorted, SolvesExactlySorted}
 use Rattle.typing.specs.Strings.{Types}
 use Rattle.typing.specs.Terms.{Term, var, head, ◌·◌, num, absent, fill, variables, Sorted, GroundType}
-use Rattle.typing.proofs.Laying.{AllPlaced}
 use Rattle.typing.proofs.Merging.{Ran, unify_ran}
-use Rattle.typing.proofs.Occurs.{acyclic_holds, term_value, term_solves}
+use Rattle.typing.proofs.Occurs.{term_solves}
 use Rattle.typing.proofs.Renaming.{Each, each_append, each_map, fill_alike, fill_fill, distinct_has, position_of}
 use Rattle.typing.proofs.Shapes.{Shape, ◌⇒◌, Shaped, SamePairs, WellShaped, RunShaped, run_shaped, term_sorted, SortedAs}
-use Rattle.typing.proofs.Solving.{cell_free, free_tidy, long, graph, pairs, placed, spread, solves_exactly}
+use Rattle.typing.proofs.Solving.{cell_free, free_tidy, long, graph, pairs, placed, solves_exactly}
 use Rattle.typing.proofs.Sorting.{VarShape, Fitted, lay_all_shaped, fill_sorted, unfill_sorted, equations_agree, each_join, each_true}
 
 -- entries given by a context, with nothing left to fill

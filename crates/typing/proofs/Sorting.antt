@@ -1,15 +1,15 @@
 -- Sorted terms: filling keeps sorts, a ground instance shows the sorts of what was filled in, and
 -- laying sorted terms out gives well-shaped cells. Assumes nothing.
-use Rattle.std.proofs.Common.{◌≡◌, ℕ, zero, suc, ◌+◌, ◌<◌, ◌≤◌, Bool, true, false, cond, eqb, ◌⊎◌, List, [], ◌∷◌, ◌++◌, length, get_or, sym, refl, ap, ◌∙◌, subst, ap₂, inl, inr, arith}
-use Rattle.std.proofs.lemmas.List.{get_or_append_left, get_or_past, get_or_push, length_push}
-use Rattle.std.proofs.lemmas.Bool.{cases_lt, cases_eq, eq-eqb, ne_eqb}
-use Rattle.typing.specs.Cells.{Cell, free, link, atom, apply, Graph, Pairs, cell}
-use Rattle.typing.specs.Heads.{Sort, type, place, result_of, parts_of}
+use Rattle.std.proofs.Common.{◌≡◌, ℕ, ◌<◌, ◌≤◌, cond, eqb, ◌⊎◌, List, [], ◌∷◌, ◌++◌, length, sym, refl, ap, ◌∙◌, subst, ap₂, inl, inr, arith}
+use Rattle.std.proofs.lemmas.List.{get_or_append_left, get_or_push, length_push}
+use Rattle.std.proofs.lemmas.Bool.{cases_lt, eq-eqb, ne_eqb}
+use Rattle.typing.specs.Cells.{Cell, free, link, atom, apply, Graph, cell}
+use Rattle.typing.specs.Heads.{Sort}
 use Rattle.typing.specs.Solutions.{Proper, Tidy}
 use Rattle.typing.specs.Solve.{Equations, lay, lay_all}
 use Rattle.typing.specs.Solved.{Bounded, AllBounded, EquationsSorted}
 use Rattle.typing.specs.Terms.{Term, var, head, ◌·◌, fill, variables, Sorted}
-use Rattle.typing.proofs.Laying.{Laid, Placed, lay_placed, AllPlaced, lay_all_placed, bounded_more, all_bounded_more}
+use Rattle.typing.proofs.Laying.{lay_placed, lay_all_placed, bounded_more, all_bounded_more}
 use Rattle.typing.proofs.Renaming.{Each, each_append}
 use Rattle.typing.proofs.Shapes.{Shape, ◌⇒◌, Shaped, WellShaped, SamePairs, Spine, spine_unique}
 

@@ -1,16 +1,16 @@
 -- A good typing is read back from its string. Assumes nothing.
-use Rattle.std.proofs.Common.{◌≡◌, ℕ, zero, suc, ◌+◌, ◌-◌, ◌<◌, ◌≤◌, max, Bool, true, false, cond, ◌&&◌, eqb, ltb, leb, List, [], ◌∷◌, ◌++◌, length, get_or, take, drop, Some, None, Option, sym, refl, ap, ◌∙◌, subst, ap₂, arith, length-append}
+use Rattle.std.proofs.Common.{◌≡◌, ℕ, suc, ◌+◌, ◌<◌, ◌≤◌, max, true, ◌&&◌, eqb, ltb, List, [], ◌∷◌, ◌++◌, length, get_or, take, drop, Some, Option, sym, refl, ap, ◌∙◌, subst, ap₂, arith, length-append}
 use Rattle.std.proofs.lemmas.List.{append_assoc, append-nil, take_at, drop_at}
 use Rattle.std.proofs.lemmas.Bool.{le-leb, eqb-true, and_parts, and_from}
 use Rattle.layout.specs.Groups.{bound, group}
 use Rattle.syntax.specs.Names.{is_name, letters, blank}
 use Rattle.typing.specs.Forms.{Name, Form, entry_variables, form_variables}
 use Rattle.typing.specs.Heads.{Sort, type}
-use Rattle.typing.specs.Parsing.{and_then, only_if, read_group, Read, read_terms, read_type, read_entries, read_form, read_count, read_status, read_typing}
+use Rattle.typing.specs.Parsing.{and_then, only_if, Read, read_terms, read_type, read_entries, read_form, read_count, read_status, read_typing}
 use Rattle.typing.specs.Strings.{term_bytes, entries_bytes, form_bytes, before, Ahead, Rising, Numbered, Types, Sound, Good, longest, Status, formed, clashed, overlong, most, Typing, status_byte, status_bytes, typing_bytes, GoodStatus, GoodTyping}
 use Rattle.typing.specs.Terms.{Term, var, head, ◌·◌, num, variables, Sorted}
 use Rattle.typing.proofs.GroupReading.{then_is, if_true, group_spelled}
-use Rattle.typing.proofs.TermReading.{terms_bytes, terms_variables, reach, reach_append, numbered_parts, known, Small, small_parts, terms_spelled, group_long, term_long}
+use Rattle.typing.proofs.TermReading.{reach, reach_append, numbered_parts, known, Small, small_parts, terms_spelled, group_long, term_long}
 
 pub name_long : (n : Name) → is_name n ≡ true → length n ≡ 4
 name_long n is =

@@ -1,17 +1,14 @@
 -- The rule over strings is the rule over typings. Assumes nothing.
-use Rattle.std.proofs.Common.{◌≡◌, ℕ, zero, suc, ◌+◌, ◌<◌, ◌≤◌, true, List, [], ◌∷◌, map, length, sym, refl, ap, ◌∙◌, subst, ap₂, arith}
+use Rattle.std.proofs.Common.{◌≡◌, ℕ, List, [], ◌∷◌, map, length, sym, refl, ap, ◌∙◌, ap₂, arith}
 use lib.ListN.{length-map}
-use Rattle.syntax.specs.Arguments.{fits}
-use Rattle.syntax.specs.Rules.{WellFormed}
 use Rattle.syntax.specs.Kinds.{arity}
-use Rattle.syntax.specs.Trees.{Forest, none, grow}
-use Rattle.syntax.specs.declared.argument.Symbol.{Symbol}
+use Rattle.syntax.specs.Trees.{none, grow}
 use Rattle.typing.specs.Judgements.{GoodTypings, pairs_of}
 use Rattle.typing.specs.Parsing.{read_typing}
 use Rattle.typing.specs.Rules.{Rule}
 use Rattle.typing.specs.StringRules.{AllLawful, RuleOfStrings, RuleIsLawful, StringsSpellTypings}
-use Rattle.typing.specs.Strings.{Typing, GoodTyping, LawfulString, typing_bytes}
-use Rattle.typing.specs.Typings.{node_typing, node_status, typings, typing_or, rule, strings}
+use Rattle.typing.specs.Strings.{Typing, typing_bytes}
+use Rattle.typing.specs.Typings.{node_typing, node_status, typings, typing_or, rule}
 use Rattle.typing.proofs.NodeRule.{rule_is_the_rules}
 use Rattle.typing.proofs.StringReading.{typing_spelled}
 use Rattle.typing.proofs.TreeRule.{good_status, good_typings}

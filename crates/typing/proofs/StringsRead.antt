@@ -1,18 +1,18 @@
 -- What is read as a typing string is lawful. Assumes nothing.
-use Rattle.std.proofs.Common.{◌≡◌, ℕ, zero, suc, ◌+◌, ◌-◌, ◌<◌, ◌≤◌, max, Bool, true, false, cond, ◌&&◌, eqb, ltb, leb, List, [], ◌∷◌, ◌++◌, length, get_or, take, drop, is_some, Some, None, Option, sym, refl, ap, ◌∙◌, subst, ap₂, arith, length-append, take-append-drop}
+use Rattle.std.proofs.Common.{◌≡◌, ℕ, zero, suc, ◌≤◌, true, false, ◌&&◌, eqb, leb, List, [], ◌∷◌, ◌++◌, length, get_or, take, drop, is_some, Some, None, Option, sym, refl, ap, ◌∙◌, subst, ap₂, arith, take-append-drop}
 use Rattle.std.proofs.lemmas.List.{append_assoc, append-nil, nil_from_length}
 use Rattle.std.proofs.lemmas.Bool.{leb-true, eqb-true, and_parts, both_ways}
-use Rattle.layout.specs.Groups.{bound, group}
+use Rattle.layout.specs.Groups.{group}
 use Rattle.syntax.specs.Names.{is_name}
-use Rattle.typing.specs.Forms.{Name, Form, entry_variables, form_variables}
+use Rattle.typing.specs.Forms.{Name, Form, entry_variables}
 use Rattle.typing.specs.Heads.{Sort, type}
-use Rattle.typing.specs.Parsing.{and_then, only_if, read_group, Read, read_terms, read_type, read_entries, read_form, read_count, read_status, read_typing, is_lawful}
+use Rattle.typing.specs.Parsing.{only_if, read_group, Read, read_terms, read_type, read_entries, read_form, read_count, read_status, read_typing, is_lawful}
 use Rattle.typing.specs.StringRules.{TestOfLawfulness}
 use Rattle.typing.specs.Strings.{term_bytes, entries_bytes, form_bytes, before, Ahead, Rising, Numbered, Types, Sound, Good, longest, Status, formed, clashed, overlong, most, Typing, status_byte, status_bytes, typing_bytes, GoodStatus, GoodTyping, Bytes, LawfulString}
-use Rattle.typing.specs.Terms.{Term, num, variables, Sorted}
+use Rattle.typing.specs.Terms.{Term, num, variables}
 use Rattle.typing.proofs.GroupReading.{then_some, if_some, some_is, pair_parts, bytes_rest, group_read}
 use Rattle.typing.proofs.StringReading.{typing_spelled}
-use Rattle.typing.proofs.TermReading.{terms_bytes, terms_variables, reach, reach_append}
+use Rattle.typing.proofs.TermReading.{reach, reach_append}
 use Rattle.typing.proofs.TermsRead.{triple_parts, Extends, extends_trans, SortAt, Got, GotOne, numbered_join, terms_read}
 
 got_one : (labels : ℕ) (seen : List Sort) (bs : List ℕ) (xs : List Term) (seen' : List Sort) (rest : List ℕ) → Got labels (type ∷ []) seen bs xs seen' rest → GotOne labels type seen bs (get_or xs 0 num) seen' rest

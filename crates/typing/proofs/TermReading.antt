@@ -1,10 +1,10 @@
 -- Reading terms back from their bytes. Assumes nothing.
-use Rattle.std.proofs.Common.{◌≡◌, ℕ, zero, suc, ◌+◌, ◌-◌, ◌/◌, ◌%◌, ◌<◌, ◌≤◌, max, Bool, true, false, cond, eqb, ltb, ◌⊎◌, List, [], ◌∷◌, ◌++◌, length, get_or, Some, None, Option, sym, refl, ap, ◌∙◌, subst, ap₂, inl, inr, arith, length-append}
+use Rattle.std.proofs.Common.{◌≡◌, ℕ, zero, suc, ◌+◌, ◌-◌, ◌/◌, ◌%◌, ◌<◌, ◌≤◌, max, true, false, cond, eqb, ltb, ◌⊎◌, List, [], ◌∷◌, ◌++◌, length, get_or, Some, None, Option, sym, refl, ap, ◌∙◌, subst, inl, inr, arith, length-append}
 use Rattle.std.proofs.lemmas.List.{append_assoc, append-nil, get_or_append_left, get_or_push, length_push}
-use Rattle.std.proofs.lemmas.Bool.{lt-ltb, le-ltb, eq-eqb, cases_lt, cases_eq}
+use Rattle.std.proofs.lemmas.Bool.{lt-ltb, le-ltb, eq-eqb, cases_lt}
 use Rattle.layout.specs.Groups.{bound, groups, group}
 use Rattle.typing.specs.Heads.{Sort, type, place, result_of, parts_of, token_of, head_of}
-use Rattle.typing.specs.Parsing.{and_then, only_if, read_group, same_sort, meet_variable, Read, read_head, read_terms}
+use Rattle.typing.specs.Parsing.{and_then, only_if, read_group, same_sort, meet_variable, read_head, read_terms}
 use Rattle.typing.specs.Strings.{term_bytes, Numbered}
 use Rattle.typing.specs.Terms.{Term, var, head, ◌·◌, applied, variables, Sorted}
 use Rattle.typing.specs.declared.head.Head.{Head}

@@ -1,12 +1,12 @@
 -- What is read as terms is their bytes, and the terms are sorted and numbered. Assumes nothing.
-use Rattle.std.proofs.Common.{◌≡◌, ℕ, zero, suc, ◌+◌, ◌-◌, ◌<◌, ◌≤◌, max, Bool, true, false, cond, eqb, ltb, ◌⊎◌, List, [], ◌∷◌, ◌++◌, length, get_or, Some, None, Option, sym, refl, ap, ◌∙◌, subst, ap₂, inl, inr, arith, length-append}
+use Rattle.std.proofs.Common.{◌≡◌, ℕ, zero, suc, ◌+◌, ◌-◌, ◌<◌, ◌≤◌, max, Bool, true, false, cond, eqb, ltb, List, [], ◌∷◌, ◌++◌, length, get_or, Some, None, Option, sym, refl, ap, ◌∙◌, subst, ap₂, arith}
 use Rattle.std.proofs.lemmas.List.{append_assoc, append-nil, get_or_append_left, get_or_at, get_or_default, length_push}
-use Rattle.std.proofs.lemmas.Bool.{ltb-true, ltb-false, eqb-true, both_ways}
-use Rattle.layout.specs.Groups.{bound, group}
+use Rattle.std.proofs.lemmas.Bool.{ltb-true, eqb-true, both_ways}
+use Rattle.layout.specs.Groups.{group}
 use Rattle.typing.specs.Heads.{Sort, type, place, result_of, parts_of, token_of, head_of}
 use Rattle.typing.specs.Parsing.{and_then, only_if, read_group, same_sort, meet_variable, Read, read_head, read_terms}
 use Rattle.typing.specs.Strings.{term_bytes, Numbered, Bytes}
-use Rattle.typing.specs.Terms.{Term, var, head, ◌·◌, applied, variables, Sorted}
+use Rattle.typing.specs.Terms.{Term, var, head, applied, variables, Sorted}
 use Rattle.typing.specs.declared.head.Head.{Head}
 use Rattle.typing.specs.declared.head.Head.TheVariants.{Num, Fun, Rec, Absent, Present}
 use Rattle.typing.proofs.GroupReading.{then_some, if_some, some_is, bytes_rest, group_read}

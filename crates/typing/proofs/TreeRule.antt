@@ -1,25 +1,24 @@
 -- The typing of a tree: it stands for just the pairs of the typing relation, and its counts are those
 -- of its nodes. Assumes nothing.
-use Rattle.std.proofs.Common.{◌≡◌, ℕ, zero, suc, ◌+◌, ◌<◌, ◌≤◌, min, Bool, true, false, List, [], ◌∷◌, map, length, get_or, Some, None, sym, refl, ap, ◌∙◌, subst, ap₂, arith}
+use Rattle.std.proofs.Common.{◌≡◌, ℕ, zero, suc, ◌+◌, ◌<◌, ◌≤◌, min, true, List, [], ◌∷◌, map, length, sym, refl, ap, ◌∙◌, subst, arith}
 use Rattle.syntax.specs.Arguments.{fits}
 use Rattle.syntax.specs.Rules.{WellFormed}
 use Rattle.syntax.specs.Kinds.{arity}
 use Rattle.syntax.specs.Trees.{Forest, none, grow, Tree, node, count}
 use Rattle.syntax.specs.declared.argument.Argument.TheVariants as argument
 use Rattle.syntax.specs.declared.argument.Symbol.{Symbol}
-use Rattle.syntax.specs.declared.kind.Kind.{Kind}
 use Rattle.syntax.specs.declared.kind.Kind.TheVariants.{Hole}
 use Rattle.typing.specs.Forms.{Context, Grounded, Form, hole_form, Stands}
-use Rattle.typing.specs.Judgements.{Inhabited, IsFormOf, Judges, GoodTypings, pairs_of}
+use Rattle.typing.specs.Judgements.{IsFormOf, Judges, GoodTypings, pairs_of}
 use Rattle.typing.specs.Rules.{Pairs, Rule, Has, hole, with}
-use Rattle.typing.specs.Strings.{Status, formed, clashed, overlong, Typing, GoodTyping, GoodStatus, most}
-use Rattle.typing.specs.Terms.{Term, GroundType}
-use Rattle.typing.specs.TreeTypings.{kept_or, mended, tree_typing, MostGeneral, clashes_in, overlongs_in, holes_in, Counted}
-use Rattle.typing.specs.Typings.{form_of, is_clash, is_overlong, is_hole, total, counted, node_status, node_typing, typings}
+use Rattle.typing.specs.Strings.{Status, formed, clashed, overlong, Typing, GoodStatus, most}
+use Rattle.typing.specs.Terms.{Term}
+use Rattle.typing.specs.TreeTypings.{kept_or, mended, MostGeneral, clashes_in, overlongs_in, holes_in, Counted}
+use Rattle.typing.specs.Typings.{form_of, is_clash, is_overlong, is_hole, total, node_status, node_typing, typings}
 use Rattle.typing.proofs.Children.{hole_stands}
 use Rattle.typing.proofs.Joining.{form_at}
 use Rattle.typing.proofs.NodeRule.{rule_is_the_rules}
-use Rattle.typing.proofs.Relation.{has_ground, HasAt, TreeRule, has_rule, rule_has, rule_map}
+use Rattle.typing.proofs.Relation.{has_ground, HasAt, has_rule, rule_has, rule_map}
 
 -- a form stands for just the pairs of a tree
 record Same (labels : ℕ) (F : Form) (t : Tree Symbol) : Type 0 where

@@ -3,7 +3,6 @@
 use Rattle.std.specs.Prelude.{ℕ, zero, suc, ◌+◌, ◌*◌, min, max, Bool, true, false, cond, ◌&&◌, List, [], ◌∷◌, ◌++◌, length, replicate, Some, None, Option, ◌==◌, slice_index_or, slice_set}
 use Rattle.typing.specs.Heads.{token_of}
 use Rattle.typing.specs.Terms.{Term, var, head, ◌·◌}
-use Rattle.typing.specs.declared.head.Head.{Head}
 pub use Rattle.typing.specs.declared.cell.Cell.{Cell}
 pub use Rattle.typing.specs.declared.cell.Cell.TheVariants.{Free as free, Link as link, Atom as atom, Apply as apply}
 

@@ -1,5 +1,5 @@
 -- The equations of each kind of node over the forms of its children. Computes. Assumes nothing.
-use Rattle.std.specs.Prelude.{ℕ, zero, suc, ◌+◌, max, cond, List, [], ◌∷◌, ◌++◌, replicate, Some, None, Option, slice_index_or, slice_set}
+use Rattle.std.specs.Prelude.{ℕ, zero, suc, ◌+◌, max, cond, List, [], ◌∷◌, ◌++◌, replicate, slice_index_or, slice_set}
 use Rattle.syntax.specs.Labels.{label_code}
 use Rattle.syntax.specs.declared.argument.Argument.{Argument}
 use Rattle.syntax.specs.declared.argument.Argument.TheVariants as argument

@@ -1,6 +1,6 @@
 -- The typing rules: what a node of each kind asks of its children, and the typing relation of trees.
 -- Declarative: nothing here says how a typing is found. Assumes nothing.
-use Rattle.std.specs.Prelude.{◌≡◌, ℕ, zero, suc, List, set, replicate, Some, slice_index_or, slice_set}
+use Rattle.std.specs.Prelude.{◌≡◌, ℕ, List, replicate, Some, slice_index_or, slice_set}
 use Rattle.syntax.specs.Labels.{label_code}
 use Rattle.syntax.specs.Trees.{Forest, none, grow, Tree, node}
 use Rattle.syntax.specs.declared.argument.Argument.{Argument}

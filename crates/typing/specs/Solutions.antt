@@ -1,5 +1,5 @@
 -- The solutions of a graph of cells: what each cell may stand for. Assumes nothing.
-use Rattle.std.specs.Prelude.{◌≡◌, ℕ, ◌+◌, ◌<◌, List, [], ◌∷◌, length}
+use Rattle.std.specs.Prelude.{◌≡◌, ℕ, ◌+◌, ◌<◌, [], ◌∷◌, length}
 use Rattle.typing.specs.Cells.{Cell, free, link, atom, apply, Graph, Pairs, cell}
 use Rattle.typing.specs.Terms.{Term, head, ◌·◌}
 

@@ -1,5 +1,5 @@
 -- Solving equations between terms, and the form that the solution gives. Computes. Assumes nothing.
-use Rattle.std.specs.Prelude.{◌≡◌, ℕ, zero, suc, ◌+◌, Bool, true, false, cond, ◌||◌, List, [], ◌∷◌, ◌++◌, length, replicate, Some, None, Option, ◌==◌}
+use Rattle.std.specs.Prelude.{ℕ, suc, Bool, false, cond, ◌||◌, List, [], ◌∷◌, ◌++◌, length, replicate, Some, None, Option, ◌==◌}
 use Rattle.typing.specs.Cells.{Graph, Pairs, free, atom, apply, unify, acyclic, term_of}
 use Rattle.typing.specs.Forms.{Name, Form, form_variables}
 use Rattle.typing.specs.Terms.{Term, var, head, ◌·◌, fill}

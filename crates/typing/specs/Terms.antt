@@ -1,7 +1,7 @@
 -- Types and places as first-order terms: heads over their parts, and variables. A ground type is a
 -- term without variables in which every head has the parts that are its own. Assumes nothing.
 use Rattle.std.specs.Prelude.{◌≡◌, ℕ, List, [], ◌∷◌, ◌++◌}
-use Rattle.typing.specs.Heads.{Sort, type, place, result_of, parts_of}
+use Rattle.typing.specs.Heads.{Sort, type, result_of, parts_of}
 use Rattle.typing.specs.declared.head.Head.{Head}
 use Rattle.typing.specs.declared.head.Head.TheVariants.{Num, Fun, Rec, Absent, Present}
 

@@ -1,5 +1,5 @@
 -- The typing of a node from those of its children, and of a tree. Computes. Assumes nothing.
-use Rattle.std.specs.Prelude.{ℕ, ◌+◌, min, Bool, cond, List, [], ◌∷◌, map, length, Some, None, Option, nat_le}
+use Rattle.std.specs.Prelude.{ℕ, ◌+◌, min, cond, List, [], ◌∷◌, map, length, Some, None, Option, nat_le}
 use Rattle.syntax.specs.Trees.{Forest, none, grow}
 use Rattle.syntax.specs.declared.argument.Argument.{Argument}
 use Rattle.syntax.specs.declared.argument.Symbol.{Symbol}

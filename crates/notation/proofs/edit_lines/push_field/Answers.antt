@@ -1,4 +1,4 @@
-use Rattle.std.proofs.Common.{◌≡◌, [], ◌∷◌, ◌++◌, sym, refl, ap, ◌∙◌, append_assoc, arith}
+use Rattle.std.proofs.Common.{◌≡◌, [], ◌∷◌, ◌++◌, refl, ap, ◌∙◌, append_assoc, arith}
 use Rattle.notation.specs.ArgumentTexts.{argument_text, field_of}
 use Rattle.notation.specs.Edits.{spaced}
 use Rattle.notation.specs.Texts.{text_of}

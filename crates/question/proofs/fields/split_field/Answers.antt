@@ -1,4 +1,4 @@
-use Rattle.std.proofs.Common.{refl, arith}
+use Rattle.std.proofs.Common.{arith}
 use Rattle.question.proofs.FieldLists.{fields_whole, fields_split, shorter}
 use Rattle.question.proofs.fields.split_field.Goals as goal
 

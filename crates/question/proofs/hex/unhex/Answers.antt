@@ -1,5 +1,5 @@
-use Rattle.std.proofs.Common.{◌≡◌, ◌+◌, ◌*◌, ◌<◌, ◌≤◌, ◌∷◌, length, sym, refl, ap, ◌∙◌, ap₂, arith}
-use Rattle.question.specs.Hex.{worth, unhex}
+use Rattle.std.proofs.Common.{◌+◌, ◌*◌, ◌<◌, ◌≤◌, ◌∷◌, length, sym, refl, ap, ◌∙◌, ap₂, arith}
+use Rattle.question.specs.Hex.{unhex}
 use Rattle.question.proofs.HexTexts.{string_pairs, pair_from, front_more, back_more, end_long, end_wrote}
 use Rattle.question.proofs.hex.unhex.Goals as goal
 

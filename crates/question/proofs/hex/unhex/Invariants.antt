@@ -1,4 +1,4 @@
-use Rattle.std.proofs.Common.{◌≡◌, ◌+◌, ◌*◌, true, false, ◌||◌, ltb, ◌++◌, length, take, drop}
+use Rattle.std.proofs.Common.{◌≡◌, ◌+◌, ◌*◌, true, ◌||◌, ltb, ◌++◌, length, take, drop}
 use Rattle.question.specs.Hex.{is_hex, unhex}
 use Rattle.question.proofs.hex.unhex.Given as goal
 

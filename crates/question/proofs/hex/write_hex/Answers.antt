@@ -1,4 +1,4 @@
-use Rattle.std.proofs.Common.{◌≡◌, ◌+◌, ◌*◌, length, set, sym, refl, ap, ◌∙◌, ap₂, arith}
+use Rattle.std.proofs.Common.{◌+◌, ◌*◌, set, sym, refl, ◌∙◌, ap₂, arith}
 use Rattle.question.proofs.HexTexts.{length_hex, write_more, write_all}
 use Rattle.question.proofs.hex.write_hex.Goals as goal
 

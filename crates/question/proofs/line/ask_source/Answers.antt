@@ -1,4 +1,4 @@
-use Rattle.std.proofs.Common.{sym, arith}
+use Rattle.std.proofs.Common.{arith}
 use Rattle.reading.specs.NamesLaws.{named_sound}
 use Rattle.question.proofs.Telling.{asked_told, for_source}
 use Rattle.question.proofs.line.ask_source.Goals as goal

@@ -1,4 +1,4 @@
-use Rattle.std.proofs.Common.{◌≡◌, ◌+◌, ◌≤◌, ◌++◌, length, take, sym, refl, ap, ◌∙◌, subst, ap₂, arith}
+use Rattle.std.proofs.Common.{◌+◌, ap, arith}
 use Rattle.question.proofs.StringParts.{put_part}
 use Rattle.question.proofs.strings.add_string.Goals as goal
 

@@ -1,4 +1,4 @@
-use Rattle.std.proofs.Common.{◌≡◌, true, [], ◌∷◌, map, sym, refl, ap, ◌∙◌, subst, ap₂, arith}
+use Rattle.std.proofs.Common.{[], ◌∷◌, sym, refl, ap, ◌∙◌, subst, arith}
 use Rattle.reading.specs.Readings.{Asked}
 use Rattle.question.specs.Fields.{fields_in, length_in}
 use Rattle.question.specs.Hex.{unhex}

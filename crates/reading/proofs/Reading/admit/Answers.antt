@@ -2,7 +2,6 @@ use Rattle.std.proofs.Common.{◌≡◌, ◌<◌, ◌≤◌, true, sym, ◌∙�
 use Rattle.syntax.specs.Arguments.{fits}
 use Rattle.reading.specs.Readings.{meter_end}
 use Rattle.reading.proofs.Refusals.{all_goes, all_stops, all_ends, by_number, by_string, by_none}
-use Rattle.reading.proofs.Reading.admit.Given as given
 use Rattle.reading.proofs.Reading.admit.Goals as goal
 
 pub returns-then-parts-arity : goal.returns-then-parts-arity

@@ -1,6 +1,6 @@
-use Rattle.std.proofs.Common.{◌≡◌, ◌+◌, [], drop, Some, None, sym, refl, ap, ◌∙◌, ap₂}
+use Rattle.std.proofs.Common.{◌+◌, [], drop, Some, sym, ap, ◌∙◌, ap₂}
 use Rattle.reading.specs.NameSets.{names_of}
-use Rattle.reading.specs.NamesRule.{add, add_own, merge_all}
+use Rattle.reading.specs.NamesRule.{add_own, merge_all}
 use Rattle.reading.specs.Readings.{texts}
 use Rattle.reading.specs.NamesLaws.{merge_more, merge_end}
 use Rattle.reading.proofs.names.collect.Goals as goal

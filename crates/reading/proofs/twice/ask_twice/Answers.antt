@@ -1,4 +1,4 @@
-use Rattle.std.proofs.Common.{take, refl, ap}
+use Rattle.std.proofs.Common.{take, ap}
 use native.Mathlib.Nat.{sub-zero}
 use Rattle.reading.proofs.TwoQuestions.{twice}
 use Rattle.reading.proofs.twice.ask_twice.Goals as goal

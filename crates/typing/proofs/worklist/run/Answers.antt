@@ -1,5 +1,5 @@
-use Rattle.std.proofs.Common.{◌≡◌, ℕ, suc, ◌-◌, ◌<◌, length, Some, sym, refl, ap, ◌∙◌, subst, arith, length-set}
-use Rattle.typing.specs.Cells.{Graph, Pairs, step}
+use Rattle.std.proofs.Common.{◌≡◌, ℕ, suc, ◌-◌, ◌<◌, Some, ap, ◌∙◌, subst, arith, length-set}
+use Rattle.typing.specs.Cells.{Graph, Pairs}
 use Rattle.typing.specs.Meetings.{stepped}
 use Rattle.typing.specs.Worklists.{stacked}
 use Rattle.typing.proofs.Running.{Going, clashed, passed, parted, room_for_parts, finished}

@@ -1,4 +1,4 @@
-use Rattle.std.proofs.Common.{◌≡◌, ◌-◌, ◌<◌, ◌≤◌, length, take, sym, refl, ap, arith, rules}
+use Rattle.std.proofs.Common.{◌≡◌, ◌-◌, ◌≤◌, length, take, sym, refl, ap, arith, rules}
 use native.Mathlib.Nat.{sub-zero}
 use Rattle.reading.specs.Fours.{write_start, write_long, write_more, end_long, end_wrote}
 use Rattle.reading.proofs.name_set.NameSet.write.Goals as goal

@@ -1,5 +1,4 @@
-use Rattle.std.proofs.Common.{◌≡◌, ◌<◌, true, length, sym, ap, ◌∙◌, arith}
-use Rattle.syntax.specs.Names.{is_name}
+use Rattle.std.proofs.Common.{◌<◌, sym, ap, ◌∙◌, arith}
 use Rattle.reading.specs.NameStrings.{fours, key, rising}
 use Rattle.reading.specs.Fours.{rises_more}
 use Rattle.reading.proofs.name_set.build.+rises.Goals as goal

@@ -1,4 +1,4 @@
-use Rattle.std.proofs.Common.{◌≡◌, ◌+◌, ◌-◌, ◌++◌, take, drop, refl, ap, ◌∙◌, ap₂, arith, rules}
+use Rattle.std.proofs.Common.{◌≡◌, ◌+◌, ◌-◌, ◌++◌, take, drop, ap, ◌∙◌, ap₂, arith, rules}
 use Rattle.std.proofs.lemmas.List.{drop-drop}
 use Rattle.reading.proofs.name_set.build.put.Goals as goal
 

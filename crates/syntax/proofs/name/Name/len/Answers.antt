@@ -1,4 +1,4 @@
-use Rattle.std.proofs.Common.{◌≡◌, length, sym, ap, arith, rules}
+use Rattle.std.proofs.Common.{length, sym, ap, arith, rules}
 use Rattle.std.proofs.lemmas.List.{drop_all}
 use Rattle.syntax.specs.Names.{letters}
 use Rattle.syntax.proofs.Letters.{count_goes, count_stops}
