@@ -12,7 +12,7 @@ use crate::solve::solve;
 impl Draft {
     pub(crate) fn solve(&mut self, res: usize) -> Outcome
         requires { Ready (state_of self.old) res }
-        ensures* { λ r. ⌜ Concludes (finished_at (record { entries = (state_of self.old).slots; result = res }) (unify (state_of self.old).graph (state_of self.old).pairs)) r ⌝ }
+        ensures { Concludes (finished_at (record { entries = (state_of self.old).slots; result = res }) (unify (state_of self.old).graph (state_of self.old).pairs)) result }
     {
         solve(
             &mut self.table,
