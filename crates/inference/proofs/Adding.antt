@@ -55,8 +55,8 @@ pub text_short : (t : FormText) → length (text_of t) ≤ longest
 text_short t = omega (arith, length-take t.len t.bytes, t.within)
 
 -- a buffer with a text written into it
-pub put_copied : (out ys text : List ℕ) (at n : ℕ) → ys ≡ text → length text ≡ n → put_mid at ((at + n) - at) out ys ≡ take at out ++ (text ++ drop (at + length text) out)
-put_copied out ys text at n is long =
+pub put_at_lem : (out ys text : List ℕ) (at n : ℕ) → ys ≡ text → length text ≡ n → put_mid at ((at + n) - at) out ys ≡ take at out ++ (text ++ drop (at + length text) out)
+put_at_lem out ys text at n is long =
     let behind : at + ((at + n) - at) ≡ at + length text = omega (arith, long) in
     ap₂ (λ (y z : List ℕ). take at out ++ (y ++ z)) is (drop-drop ((at + n) - at) at out ∙ ap (λ m. drop m out) behind)
 
