@@ -1,7 +1,6 @@
 -- The steps by which a draft grows, and that they never take cells, entries or pairs away. Assumes nothing.
 use Rattle.std.proofs.Common.{◌≡◌, ℕ, suc, ◌+◌, ◌<◌, ◌≤◌, Bool, true, false, List, [], ◌∷◌, ◌++◌, length, replicate, Ok, Err, Result, refl, ap, ◌∙◌, arith, length-append, MatchResult}
-use lib.ListN.{length-replicate}
-use Rattle.std.proofs.lemmas.List.{length_push}
+use Rattle.std.proofs.lemmas.List.{length_push, length-replicate}
 use Rattle.syntax.specs.declared.fault.Fault.{Fault}
 use Rattle.typing.specs.Cells.{Graph}
 use Rattle.typing.specs.Forms.{Name, same}

@@ -1,6 +1,6 @@
 -- A node over lawful strings: its draft is ready, and what it comes to is the rule's. Assumes nothing.
 use Rattle.std.proofs.Common.{◌≡◌, ℕ, zero, suc, ◌+◌, ◌<◌, ◌≤◌, min, List, [], ◌∷◌, ◌++◌, length, drop, replicate, sym, refl, ap, ◌∙◌, subst, ap₂, arith}
-use lib.ListN.{length-map, length-replicate}
+use Rattle.std.proofs.lemmas.List.{length-map, length-replicate}
 use Rattle.syntax.specs.Kinds.{arity}
 use Rattle.syntax.specs.declared.argument.Argument.{Argument}
 use Rattle.syntax.specs.declared.argument.Symbol.{Symbol}

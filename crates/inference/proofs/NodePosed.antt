@@ -1,6 +1,6 @@
 -- The draft of a node poses the problem of its kind over the forms of its children. Assumes nothing.
 use Rattle.std.proofs.Common.{◌≡◌, ℕ, zero, suc, ◌+◌, ◌<◌, ◌≤◌, Bool, true, false, cond, List, [], ◌∷◌, map, length, get_or, set, replicate, sym, refl, ap, ◌∙◌, subst, ap₂, arith}
-use lib.ListN.{length-replicate}
+use Rattle.std.proofs.lemmas.List.{length-replicate}
 use Rattle.syntax.specs.Arguments.{of_sort}
 use Rattle.syntax.specs.Kinds.{arity, sort_of}
 use Rattle.syntax.specs.declared.argument.Argument.{Argument}

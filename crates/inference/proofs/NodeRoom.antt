@@ -1,7 +1,6 @@
 -- There is room for the draft of a node, whatever its children's strings tell. Assumes nothing.
 use Rattle.std.proofs.Common.{◌≡◌, ℕ, suc, ◌+◌, ◌*◌, ◌≤◌, Bool, true, false, cond, List, [], ◌∷◌, ◌++◌, map, length, set, replicate, refl, arith, length-append, length-set}
-use lib.ListN.{length-replicate}
-use Rattle.std.proofs.lemmas.List.{length_push}
+use Rattle.std.proofs.lemmas.List.{length_push, length-replicate}
 use Rattle.syntax.specs.Kinds.{arity}
 use Rattle.syntax.specs.declared.argument.Argument.{Argument}
 use Rattle.syntax.specs.declared.kind.Kind.{Kind}

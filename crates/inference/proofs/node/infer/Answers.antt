@@ -1,5 +1,5 @@
 use Rattle.std.proofs.Common.{◌≤◌, length, refl, arith}
-use lib.ListN.{length-map}
+use Rattle.std.proofs.lemmas.List.{length-map}
 use Rattle.reading.specs.Readings.{texts}
 use Rattle.inference.proofs.NodeFacts.{few, room_children, fresh_bound, room_now, ready_now, concludes_now}
 use Rattle.inference.proofs.node.infer.Goals as goal

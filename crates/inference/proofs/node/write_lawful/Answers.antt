@@ -1,5 +1,5 @@
-use lib.ListN.{length-map}
 use Rattle.std.proofs.Common.{arith}
+use Rattle.std.proofs.lemmas.List.{length-map}
 use Rattle.reading.specs.Readings.{texts}
 use Rattle.std.proofs.lemmas.Bool.{both_ways}
 use Rattle.inference.specs.Tallies.{all_lawful}

@@ -1,6 +1,5 @@
 use Rattle.std.proofs.Common.{[], ◌∷◌, ◌++◌, length, replicate, ap, ◌∙◌, arith, length-append}
-use lib.ListN.{length-replicate}
-use Rattle.std.proofs.lemmas.List.{append_assoc}
+use Rattle.std.proofs.lemmas.List.{append_assoc, length-replicate}
 use Rattle.std.proofs.lemmas.Result.{MatchResult-from_err}
 use Rattle.typing.specs.declared.cell.Cell.TheVariants.{Free}
 use Rattle.inference.specs.Tables.{graph_of}
