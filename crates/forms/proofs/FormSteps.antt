@@ -10,7 +10,6 @@ use Rattle.typing.specs.Forms.{Name, Form, entry_variables, form_variables}
 use Rattle.typing.specs.Heads.{Sort, type}
 use Rattle.typing.specs.Parsing.{and_then, only_if, read_group, Read, read_terms, read_type, read_entries, read_form, read_status}
 use Rattle.typing.specs.Strings.{Bytes, formed, entries_bytes, term_bytes, longest}
-use Rattle.typing.specs.Strings as strings
 use Rattle.typing.specs.Terms.{Term, num, variables}
 use Rattle.typing.proofs.GroupReading.{bytes_rest, group_read, if_true, then_is, pair_parts}
 use Rattle.typing.proofs.StringsRead.{entries_read, type_read}

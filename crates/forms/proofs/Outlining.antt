@@ -1,18 +1,15 @@
 -- Reading a typing string, step by step, and where its parts stand. Assumes nothing.
-use Rattle.std.proofs.Common.{◌≡◌, ℕ, ◌+◌, ◌-◌, ◌≤◌, List, ◌∷◌, ◌++◌, length, drop, Some, None, Ok, Option, Result, sym, refl, ap, ◌∙◌, subst, arith, length-append}
+use Rattle.std.proofs.Common.{◌≡◌, ℕ, ◌+◌, ◌-◌, ◌≤◌, List, ◌∷◌, ◌++◌, length, drop, Some, None, Ok, Option, Result, sym, refl, ap, ◌∙◌, arith, length-append}
 use Rattle.std.proofs.lemmas.List.{append_assoc, drop_at}
 use Rattle.layout.specs.Groups.{group}
 use Rattle.syntax.specs.declared.fault.Fault.{Fault}
-use Rattle.typing.specs.Constraints.{width}
-use Rattle.typing.specs.Forms.{Form}
 use Rattle.typing.specs.Parsing.{read_count, read_status, read_typing}
 use Rattle.typing.specs.Strings.{Bytes, Good, Typing, formed, clashed, overlong, entries_bytes, term_bytes, status_bytes, typing_bytes}
 use Rattle.typing.specs.Strings as strings
 use Rattle.typing.proofs.GroupReading.{then_is}
 use Rattle.typing.proofs.StringsRead.{typing_read}
-use Rattle.forms.specs.Outlines.{status_of, listed, width_of, ahead, spread, type_spread, entries_offset, type_offset, outline_of, outlined, shape_of, shaped, FormStands}
+use Rattle.forms.specs.Outlines.{ahead, spread, type_spread, entries_offset, type_offset, outline_of, outlined, shape_of, shaped, FormStands}
 use Rattle.forms.specs.declared.outline.Outline.{Outline}
-use Rattle.forms.specs.declared.outline.Status.TheVariants.{Formed, Clashed, Overlong}
 use Rattle.forms.specs.declared.shape.Shape.{Shape}
 
 -- the parts of a status in its bytes

@@ -1,5 +1,5 @@
 -- Terms built over cells that are there already have the values of those. Assumes nothing.
-use Rattle.std.proofs.Common.{◌≡◌, ℕ, zero, suc, ◌+◌, ◌<◌, ◌≤◌, true, List, [], ◌∷◌, ◌++◌, map, length, get_or, drop, replicate, is_err, Result, sym, refl, ap, ◌∙◌, subst, ap₂, arith}
+use Rattle.std.proofs.Common.{◌≡◌, ℕ, zero, suc, ◌+◌, ◌<◌, ◌≤◌, true, List, [], ◌∷◌, ◌++◌, map, length, get_or, drop, replicate, is_err, Result, sym, refl, ap, ◌∙◌, ap₂, arith}
 use Rattle.std.proofs.lemmas.List.{drop_more, drop_all, length-drop, length_push}
 use Rattle.std.proofs.lemmas.Result.{MatchResult-from_err}
 use Rattle.syntax.specs.declared.fault.Fault.{Fault}
@@ -8,7 +8,7 @@ use Rattle.typing.specs.declared.cell.Cell.TheVariants.{Free as free, Atom as at
 use Rattle.typing.specs.declared.head.Head.{Head}
 use Rattle.typing.specs.Layings.{Laid}
 use Rattle.typing.specs.Solutions.{Solves, Tidy}
-use Rattle.typing.specs.Terms.{Term, head, ◌·◌, applied}
+use Rattle.typing.specs.Terms.{Term, head, applied}
 use Rattle.typing.proofs.Laying.{laid_push, laid_more, laid_none, push_back}
 use Rattle.inference.specs.Builds.{apply_all, build, Built}
 use Rattle.inference.specs.Drafts.{CellsWithin}

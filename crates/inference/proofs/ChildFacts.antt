@@ -1,17 +1,17 @@
 -- What the string of a child tells: its form can be read, and has few variables. Assumes nothing.
-use Rattle.std.proofs.Common.{◌≡◌, ℕ, zero, suc, ◌+◌, ◌<◌, ◌≤◌, max, true, List, [], ◌∷◌, ◌++◌, length, get_or, drop, IfOk, Some, None, Ok, Err, Option, Result, sym, refl, ap, ◌∙◌, subst, ap₂, arith, length-append}
+use Rattle.std.proofs.Common.{◌≡◌, ℕ, suc, ◌+◌, ◌<◌, ◌≤◌, max, true, List, [], ◌∷◌, ◌++◌, length, get_or, drop, IfOk, Some, None, Ok, Err, Option, Result, sym, refl, ap, ◌∙◌, subst, arith, length-append}
 use Rattle.std.proofs.lemmas.Bool.{and_from, lt-ltb}
-use Rattle.layout.specs.Groups.{Group, group}
+use Rattle.layout.specs.Groups.{group}
 use Rattle.syntax.specs.declared.fault.Fault.{Fault}
 use Rattle.forms.specs.Outlines.{outlined, outline_of, listed, status_of, width_of}
 use Rattle.forms.specs.declared.outline.Outline.{Outline}
 use Rattle.forms.specs.declared.outline.Status.TheVariants.{Formed, Clashed, Overlong}
 use Rattle.forms.proofs.Outlining.{form_stands, string_long}
 use Rattle.typing.specs.Constraints.{above, width}
-use Rattle.typing.specs.Forms.{Name, Form, hole_form, entry_variables, form_variables}
+use Rattle.typing.specs.Forms.{Name, Form, entry_variables, form_variables}
 use Rattle.typing.specs.Heads.{Sort, type}
 use Rattle.typing.specs.Parsing.{read_typing}
-use Rattle.typing.specs.Strings.{Bytes, Status, formed, clashed, overlong, Typing, Good, GoodStatus, GoodTyping, Numbered, Rising, Types, entries_bytes, term_bytes, form_bytes, typing_bytes}
+use Rattle.typing.specs.Strings.{Bytes, Status, formed, clashed, overlong, Typing, Good, GoodStatus, GoodTyping, Numbered, Rising, Types, entries_bytes, term_bytes}
 use Rattle.typing.specs.Terms.{Term, var, head, ◌·◌, Sorted, variables}
 use Rattle.typing.specs.Typings.{form_of}
 use Rattle.typing.proofs.StringReading.{name_long, numbered_small, variables_long, entry_variables_long}

@@ -1,6 +1,6 @@
 -- Adding the children of a node to a draft, the last one first. Assumes nothing.
-use Rattle.std.proofs.Common.{◌≡◌, ℕ, zero, suc, ◌+◌, ◌<◌, ◌≤◌, List, [], ◌∷◌, ◌++◌, map, length, get_or, drop, set, Some, None, Ok, Err, Option, Result, sym, refl, ap, ◌∙◌, subst, ap₂, arith, Bor, MatchResult}
-use Rattle.std.proofs.lemmas.List.{drop_more, drop_all, drop-set}
+use Rattle.std.proofs.Common.{◌≡◌, ℕ, zero, suc, ◌+◌, ◌<◌, ◌≤◌, List, [], ◌∷◌, length, get_or, drop, Some, Ok, Err, Result, sym, refl, ap, ◌∙◌, subst, arith, Bor}
+use Rattle.std.proofs.lemmas.List.{drop_more, drop_all}
 use Rattle.syntax.specs.declared.fault.Fault.{Fault}
 use Rattle.forms.specs.Outlines.{outlined, outline_of}
 use Rattle.forms.specs.declared.outline.Outline.{Outline}
@@ -10,11 +10,11 @@ use Rattle.typing.specs.Forms.{Form}
 use Rattle.typing.specs.Parsing.{read_typing}
 use Rattle.typing.specs.Strings.{Typing}
 use Rattle.typing.specs.Typings.{form_of}
-use Rattle.inference.specs.Drafts.{State, add_entries, add_form, unknowns, with_graph, Roomy}
+use Rattle.inference.specs.Drafts.{State, add_entries, add_form, unknowns, Roomy}
 use Rattle.inference.specs.Joins.{AddsChild, AddsAll, AllRead, Begins, all_at, forms_of, width_in}
 use Rattle.inference.specs.Layouts.{shift}
 use Rattle.inference.specs.Posed.{spare}
-use Rattle.inference.proofs.ChildFacts.{outlined_from, width_in_lem}
+use Rattle.inference.proofs.ChildFacts.{width_in_lem}
 use Rattle.inference.proofs.DraftSteps.{Grows, grows_entries, grows_lay, grows_more, roomy_before}
 
 grows_form : (base : ℕ) (F : Form) (S : State) → Grows S (add_form base F S).0

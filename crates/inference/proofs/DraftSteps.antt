@@ -1,16 +1,15 @@
 -- The steps by which a draft grows, and that they never take cells, entries or pairs away. Assumes nothing.
-use Rattle.std.proofs.Common.{◌≡◌, ℕ, zero, suc, ◌+◌, ◌<◌, ◌≤◌, Bool, true, false, cond, List, [], ◌∷◌, ◌++◌, length, replicate, Ok, Err, Result, sym, refl, ap, ◌∙◌, subst, ap₂, arith, length-append, MatchResult}
-use lib.ListN.{length-replicate}
-use Rattle.std.proofs.lemmas.List.{length_push}
+use Rattle.std.proofs.Common.{◌≡◌, ℕ, suc, ◌+◌, ◌<◌, ◌≤◌, Bool, true, false, List, [], ◌∷◌, ◌++◌, length, replicate, Ok, Err, Result, refl, ap, ◌∙◌, arith, length-append, MatchResult}
+use Rattle.std.proofs.lemmas.List.{length_push, length-replicate}
 use Rattle.syntax.specs.declared.fault.Fault.{Fault}
 use Rattle.typing.specs.Cells.{Graph}
-use Rattle.typing.specs.Constraints.{insert}
 use Rattle.typing.specs.Forms.{Name, same}
 use Rattle.typing.specs.Solve.{lay}
 use Rattle.typing.specs.Strings.{before}
 use Rattle.typing.specs.Terms.{Term}
 use Rattle.typing.specs.declared.cell.Cell.TheVariants.{Free as free, Atom as atom}
 use Rattle.typing.specs.declared.head.Head.{Head}
+use Rattle.inference.specs.NamedEntries.{insert}
 use Rattle.inference.specs.Drafts.{State, with_graph, unknowns, build_at, equate_at, put_slot, add_entries, Roomy, Does, DoesIf, LaysAt, SlotsWithin}
 use Rattle.inference.specs.Layouts.{Answer, LaysTerm, shift}
 use Rattle.inference.specs.Slots.{Slot, slots_of}

@@ -1,11 +1,11 @@
 -- Steps of the kinds for which there is no room. Assumes nothing.
-use Rattle.std.proofs.Common.{◌≡◌, ℕ, ◌+◌, List, [], ◌∷◌, set, replicate, Result, sym, refl, ap, ◌∙◌, subst}
+use Rattle.std.proofs.Common.{◌≡◌, ℕ, ◌+◌, List, [], ◌∷◌, set, replicate, Result, sym, ap, ◌∙◌, subst}
 use Rattle.syntax.specs.Labels.{label_code}
 use Rattle.syntax.specs.declared.argument.Argument.TheVariants as argument
 use Rattle.syntax.specs.declared.fault.Fault.{Fault}
 use Rattle.syntax.specs.declared.kind.Kind.TheVariants as kind
 use Rattle.syntax.specs.declared.label.Label.{Label}
-use Rattle.typing.specs.declared.head.Head.TheVariants.{Num, Fun, Rec, Absent, Present}
+use Rattle.typing.specs.declared.head.Head.TheVariants.{Rec, Absent, Present}
 use Rattle.inference.specs.Drafts.{State, build_at, equate_at, Roomy, DoesIf}
 use Rattle.inference.specs.Posed.{cells_from, constrain_at}
 use Rattle.inference.proofs.DraftSteps.{Grows, no_step, grows_build, grows_equate, grows_more}

@@ -1,11 +1,8 @@
 -- Laying terms out off the bytes that spell them: what each token tells. Assumes nothing.
-use Rattle.std.proofs.Common.{◌≡◌, ℕ, zero, suc, ◌+◌, ◌-◌, ◌*◌, ◌<◌, ◌≤◌, true, false, ◌⊎◌, List, [], ◌∷◌, ◌++◌, map, length, is_err, Some, None, Ok, Err, Option, Result, sym, refl, ap, ◌∙◌, subst, ap₂, inl, inr, arith, length-append, Bor, MatchResult}
+use Rattle.std.proofs.Common.{◌≡◌, ℕ, suc, ◌+◌, ◌-◌, ◌≤◌, true, false, ◌⊎◌, List, [], ◌∷◌, ◌++◌, map, length, is_err, Some, None, Ok, Err, Option, sym, refl, ap, ◌∙◌, subst, ap₂, inl, inr, arith, Bor}
 use Rattle.std.proofs.lemmas.List.{append_assoc, append-nil, length_push}
 use Rattle.std.proofs.lemmas.Bool.{both_ways}
-use Rattle.layout.specs.Groups.{Group, group, bound}
-use Rattle.layout.specs.Readers.{Reads}
-use Rattle.layout.proofs.Prefixes.{groups_back}
-use Rattle.syntax.specs.declared.fault.Fault.{Fault}
+use Rattle.layout.specs.Groups.{Group, group}
 use Rattle.typing.specs.Cells.{Graph}
 use Rattle.typing.specs.declared.cell.Cell.TheVariants.{Atom as atom, Apply as apply}
 use Rattle.typing.specs.Heads.{Sort, parts_of, token_of, head_of}
@@ -13,12 +10,12 @@ use Rattle.typing.specs.declared.head.Head.{Head}
 use Rattle.typing.specs.declared.head.Head.TheVariants.{Num, Fun, Rec, Absent, Present}
 use Rattle.typing.specs.Solve.{lay}
 use Rattle.typing.specs.Strings.{term_bytes}
-use Rattle.typing.specs.Terms.{Term, var, head, ◌·◌, fill, applied}
+use Rattle.typing.specs.Terms.{Term, var, head, ◌·◌, applied}
 use Rattle.typing.proofs.Records.{EachSorted, fill_applied}
 use Rattle.typing.proofs.TermReading.{Made, take_apart, applied_bytes, group_long}
 use Rattle.typing.proofs.TermReading as reading
 use Rattle.inference.specs.Layouts.{Answer, Legible, EachLegible, terms_bytes, shift, ReadsToken, Out, LaysTerm, LaysParts, Takes}
-use Rattle.inference.specs.Tables.{most_cells, Pushed}
+use Rattle.inference.specs.Tables.{most_cells}
 
 abbrev Good : ℕ → Sort → Type 0
 Good k q = Group (5 + k)

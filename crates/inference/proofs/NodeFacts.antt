@@ -1,14 +1,13 @@
 -- A node over lawful strings: its draft is ready, and what it comes to is the rule's. Assumes nothing.
-use Rattle.std.proofs.Common.{◌≡◌, ℕ, zero, suc, ◌+◌, ◌<◌, ◌≤◌, min, true, List, [], ◌∷◌, ◌++◌, map, length, get_or, drop, replicate, sym, refl, ap, ◌∙◌, subst, ap₂, arith}
-use lib.ListN.{length-map, length-replicate}
-use Rattle.syntax.specs.Arguments.{fits, of_sort}
-use Rattle.syntax.specs.Kinds.{arity, sort_of}
+use Rattle.std.proofs.Common.{◌≡◌, ℕ, zero, suc, ◌+◌, ◌<◌, ◌≤◌, min, List, [], ◌∷◌, ◌++◌, length, drop, replicate, sym, refl, ap, ◌∙◌, subst, ap₂, arith}
+use Rattle.std.proofs.lemmas.List.{length-map, length-replicate}
+use Rattle.syntax.specs.Kinds.{arity}
 use Rattle.syntax.specs.declared.argument.Argument.{Argument}
 use Rattle.syntax.specs.declared.argument.Symbol.{Symbol}
 use Rattle.syntax.specs.declared.kind.Kind.{Kind}
 use Rattle.syntax.specs.declared.kind.Kind.TheVariants as kind
 use Rattle.typing.specs.Cells.{unify}
-use Rattle.typing.specs.Constraints.{constraints, joined, width}
+use Rattle.typing.specs.Constraints.{constraints, joined}
 use Rattle.typing.specs.Forms.{Form}
 use Rattle.typing.specs.Posing.{finished_at}
 use Rattle.typing.specs.Solve.{solve}
@@ -18,11 +17,11 @@ use Rattle.typing.specs.declared.cell.Cell.TheVariants.{Free as free}
 use Rattle.typing.proofs.NodeRule.{ruled, typings_children}
 use Rattle.typing.proofs.Posing.{any_graph_solves}
 use Rattle.typing.proofs.Solving.{free_tidy}
-use Rattle.inference.specs.Drafts.{State, add_forms, unknowns, Roomy}
-use Rattle.inference.specs.Joins.{AddsAll, AllRead, Begins, all_at, forms_of}
-use Rattle.inference.specs.Nodes.{Ready, Lawful, Infers}
+use Rattle.inference.specs.Drafts.{State, unknowns, Roomy}
+use Rattle.inference.specs.Joins.{Begins, all_at, forms_of}
+use Rattle.inference.specs.Nodes.{Ready, Lawful}
 use Rattle.inference.specs.Outcomes.{Concludes, clash_of, overlong_of}
-use Rattle.inference.specs.Posed.{at, children_at, constrain_at, node_at, spare}
+use Rattle.inference.specs.Posed.{at, constrain_at, node_at, spare}
 use Rattle.inference.specs.Tallies.{read_all, Totals}
 use Rattle.inference.specs.TypingStrings.{string_of}
 use Rattle.inference.specs.declared.outcome.Outcome.{Outcome}

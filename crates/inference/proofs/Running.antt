@@ -1,13 +1,9 @@
 -- A run of a work list: what each turn keeps. Assumes nothing.
-use Rattle.std.proofs.Common.{◌≡◌, ℕ, zero, suc, ◌+◌, ◌*◌, ◌<◌, ◌≤◌, Bool, true, false, ◌≢◌, List, [], ◌∷◌, ◌++◌, length, get_or, set, Some, None, Option, sym, refl, ap, ◌∙◌, subst, ap₂, subst₂, arith}
+use Rattle.std.proofs.Common.{◌≡◌, ℕ, zero, suc, ◌+◌, ◌*◌, ◌<◌, ◌≤◌, ◌≢◌, [], ◌∷◌, length, set, Some, None, sym, refl, ap, ◌∙◌, subst, ap₂, subst₂, arith}
 use Rattle.std.proofs.lemmas.List.{get_or-set_other, get_or-set_same, length-set}
-use Rattle.typing.specs.Cells.{Graph, Pairs, Outcome, clash, solved, more, step, after, unify}
-use Rattle.typing.specs.declared.cell.Cell.{Cell}
-use Rattle.inference.specs.Meetings.{stepped}
+use Rattle.typing.specs.Cells.{Graph, Pairs, clash, more, step, after, unify}
 use Rattle.typing.specs.Solutions.{Tidy, Within, live}
 use Rattle.inference.specs.Worklists.{stacked}
-use Rattle.inference.specs.declared.meeting.Meeting.{Meeting}
-use Rattle.inference.specs.declared.meeting.Meeting.TheVariants.{Clash, One, Parts}
 use Rattle.typing.proofs.Merging.{Kept, Sound, step_sound, unify_step}
 
 -- what is left gives what the run was to give, and there is room for all that can come

@@ -1,12 +1,12 @@
 -- Entries over cells: how one takes its place. Assumes nothing.
-use Rattle.std.proofs.Common.{◌≡◌, ℕ, zero, suc, ◌+◌, ◌-◌, ◌<◌, ◌≤◌, Bool, true, false, cond, ◌||◌, eqb, List, [], ◌∷◌, ◌++◌, length, get_or, take, drop, set, Some, None, Option, sym, refl, ap, ◌∙◌, subst, ap₂, arith, length-append}
+use Rattle.std.proofs.Common.{◌≡◌, ℕ, zero, suc, ◌+◌, ◌<◌, ◌≤◌, Bool, true, false, cond, eqb, List, [], ◌∷◌, ◌++◌, length, get_or, take, drop, set, sym, refl, ap, ◌∙◌, subst, ap₂, arith}
 use Rattle.std.specs.List.{insert as inserted}
 use Rattle.std.proofs.lemmas.List.{append_assoc, append-nil, drop_all, drop_more, length-set, drop-set-lt, take_more, take_more_set, nil_from_length}
 use Rattle.std.proofs.lemmas.List.Edits.{length-insert}
 use Rattle.std.proofs.lemmas.Bool.{ne_eqb}
-use Rattle.typing.specs.Constraints.{insert, type_of, without}
 use Rattle.typing.specs.Forms.{Name, same}
 use Rattle.typing.specs.Strings.{before}
+use Rattle.inference.specs.NamedEntries.{insert, type_of, without}
 use Rattle.inference.specs.Slots.{Slot, slot_of, slots_of, most_entries, Goes}
 use Rattle.inference.specs.declared.entry.Entry.{Entry}
 

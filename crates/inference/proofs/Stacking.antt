@@ -5,7 +5,6 @@ use Rattle.typing.specs.Cells.{Graph, Pairs as PairList}
 use Rattle.typing.specs.Solutions.{live}
 use Rattle.typing.proofs.Merging.{live_length}
 use Rattle.inference.specs.Worklists.{stacked}
-use Rattle.inference.specs.declared.pairs.Pairs.{Pairs}
 use Rattle.inference.proofs.Running.{stacked_set}
 
 -- one pair on top of the first n

@@ -1,18 +1,18 @@
 -- A walk down a graph of cells: what it means where it comes back to an open cell, and what it leaves
 -- where it does not. Assumes nothing.
-use Rattle.std.proofs.Common.{◌≡◌, ℕ, zero, suc, ◌+◌, ◌<◌, ◌≤◌, max, Bool, true, false, cond, eqb, ◌≢◌, ◌⊎◌, List, [], ◌∷◌, length, get_or, set, sym, refl, ap, ◌∙◌, subst, ap₂, inl, inr, arith}
+use Rattle.std.proofs.Common.{◌≡◌, ℕ, zero, suc, ◌+◌, ◌<◌, ◌≤◌, max, true, false, cond, eqb, ◌⊎◌, List, [], ◌∷◌, length, set, sym, refl, ap, ◌∙◌, subst, ap₂, inl, inr, arith}
 use Rattle.std.proofs.lemmas.List.{get_or-set_same, get_or_past, get_or-set_other, length-set}
 use Rattle.std.proofs.lemmas.Bool.{cases_Bool, cases_eq, cases_lt, eq-eqb, ne_eqb}
 use Rattle.typing.specs.Cells.{Graph, cell, find, readback, unroll, acyclic, term_of}
 use Rattle.typing.specs.declared.cell.Cell.{Cell}
 use Rattle.typing.specs.declared.cell.Cell.TheVariants.{Free as free, Link as link, Atom as atom, Apply as apply}
 use Rattle.typing.specs.Solutions.{Fits, Solves, Tidy, NotLink}
-use Rattle.typing.specs.Terms.{Term, var, head, ◌·◌, fill}
+use Rattle.typing.specs.Terms.{Term, var, ◌·◌, fill}
 use Rattle.typing.specs.Walks.{size}
 use Rattle.inference.specs.Walks.{mark, is_unseen, unseen, Under, Sinks, Ranks, PartsRank, Ranked, Walked, Fresh}
 use Rattle.inference.specs.declared.cycle.Mark.{Mark}
 use Rattle.inference.specs.declared.cycle.Mark.TheVariants.{Unseen, Open, Done}
-use Rattle.typing.proofs.Finding.{find_value, find_root, find_stays, find_link}
+use Rattle.typing.proofs.Finding.{find_value, find_stays, find_link}
 use Rattle.typing.proofs.Occurs.{acyclic_holds, size_some, term_solves}
 
 -- a mark that is written, and the others

@@ -1,5 +1,5 @@
 -- What is found of a node over the strings of its children. Assumes nothing.
-use Rattle.std.specs.Prelude.{◌≡◌, ℕ, ◌+◌, ◌<◌, ◌≤◌, Bool, true, ◌&&◌, List, [], ◌∷◌, ◌++◌, length, drop, Some, None, Result, MatchResult, nat_lt}
+use Rattle.std.specs.Prelude.{◌≡◌, ℕ, ◌<◌, Bool, true, ◌&&◌, List, [], ◌∷◌, ◌++◌, length, drop, Some, None, Result, MatchResult, nat_lt}
 use Rattle.reading.specs.Readings.{Meaning, refusal}
 use Rattle.syntax.specs.Arguments.{fits}
 use Rattle.syntax.specs.Kinds.{arity}

@@ -1,10 +1,9 @@
 -- The entries of a form over cells. Assumes nothing.
-use Rattle.std.specs.Prelude.{◌≡◌, ℕ, ◌<◌, ◌≤◌, true, false, List, [], ◌∷◌, ◌++◌, length, take, drop, Some, None, Option, Result, MatchResult}
+use Rattle.std.specs.Prelude.{◌≡◌, ℕ, ◌<◌, ◌≤◌, List, [], ◌∷◌, ◌++◌, length, take, drop, Some, None, Option, Result, MatchResult}
 use Rattle.std.specs.List.{insert as inserted}
 use Rattle.syntax.specs.declared.fault.Fault.{Fault}
-use Rattle.typing.specs.Constraints.{insert}
-use Rattle.typing.specs.Forms.{Name, same}
-use Rattle.typing.specs.Strings.{before}
+use Rattle.typing.specs.Forms.{Name}
+use Rattle.inference.specs.NamedEntries.{insert}
 use Rattle.inference.specs.declared.entries.Entries.{Entries}
 use Rattle.inference.specs.declared.entries.insert.Place.{Place}
 use Rattle.inference.specs.declared.entries.insert.Place.TheVariants.{Listed, At}

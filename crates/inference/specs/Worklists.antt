@@ -1,5 +1,5 @@
 -- The pairs on a stack as the code has it, and what a run of them leaves. Assumes nothing.
-use Rattle.std.specs.Prelude.{ℕ, zero, suc, Bool, true, false, List, [], ◌∷◌, Some, None, Option, slice_index_or}
+use Rattle.std.specs.Prelude.{ℕ, zero, suc, Bool, true, false, [], ◌∷◌, Some, None, Option, slice_index_or}
 use Rattle.typing.specs.Cells.{Graph, Pairs}
 
 -- the first so many pairs of a stack, the last one first

@@ -77,17 +77,17 @@ fn write_entries(
 }
 
 // Writes a form: how many entries there are, the entries, and the type in the cell of the result.
-pub(crate) fn write_form(cells: &[Cell], entries: &[Entry], res: usize) -> Option<FormText>
+pub(crate) fn write_form(cells: &[Cell], entries: &[Entry], type_cell: usize) -> Option<FormText>
     requires tidy { Tidy (length cells.now) cells.now }
     requires within { EntriesWithin (length cells.now) entries.now }
-    requires inside { res < length cells.now }
+    requires inside { type_cell < length cells.now }
     requires few { Group (length entries.now) }
-    ensures { WroteForm (form_bytes (canonical (form_at cells.now (slots_with entries.now res)))) result }
+    ensures { WroteForm (form_bytes (canonical (form_at cells.now (slots_with entries.now type_cell)))) result }
 {
     let mut seen = Seen::new();
     let mut text = FormText::new();
     text.push_group(entries.len() as u32)?;
     write_entries(cells, &mut seen, &mut text, entries)?;
-    write_cell(cells, &mut seen, &mut text, cells.len() + 1, res)?;
+    write_cell(cells, &mut seen, &mut text, cells.len() + 1, type_cell)?;
     Some(text)
 }

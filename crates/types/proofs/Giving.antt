@@ -1,5 +1,5 @@
 -- What the typing reading gives for a rule. Assumes nothing.
-use Rattle.std.proofs.Common.{◌≡◌, ℕ, ◌≤◌, List, [], ◌∷◌, map, get_or, sym, refl, ap, ◌∙◌, ap₂, arith}
+use Rattle.std.proofs.Common.{◌≡◌, [], ◌∷◌, get_or, refl, ap, ◌∙◌, ap₂, arith}
 use Rattle.reading.specs.Readings.{gives, all_give}
 use Rattle.syntax.specs.Rules.{Rule}
 use Rattle.syntax.specs.Trees.{Forest, none, grow, Tree, node}
@@ -11,7 +11,7 @@ use Rattle.typing.proofs.Clean.{closed_and_clean}
 use Rattle.typing.proofs.StringRule.{strings_spell_typings}
 use Rattle.typing.proofs.TreeRule.{is_counted, most_general}
 use Rattle.inference.specs.Nodes.{typed}
-use Rattle.types.specs.GivenTypings.{GivesTypings, TypingGiven}
+use Rattle.types.specs.GivenTypings.{GivesTypings}
 
 all_strings : (f : Forest Symbol) → all_give typed f ≡ strings 4 f
 all_strings none = refl

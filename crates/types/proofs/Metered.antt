@@ -1,5 +1,5 @@
 -- The meter is the only reason to refuse that a node does not know. Assumes nothing.
-use Rattle.std.proofs.Common.{◌≡◌, ℕ, ◌<◌, cond, ltb, leb, List, Some, None, refl, ap, ◌∙◌}
+use Rattle.std.proofs.Common.{◌≡◌, ℕ, ◌<◌, cond, leb, List, Some, None, ap}
 use Rattle.std.proofs.lemmas.Bool.{lt-ltb}
 use Rattle.syntax.specs.Arguments.{fits}
 use Rattle.syntax.specs.declared.argument.Symbol.{Symbol}

@@ -1,5 +1,5 @@
 -- What the typing reading says of a rule, in the words of the typing relation. Assumes nothing.
-use Rattle.std.specs.Prelude.{◌≡◌, ℕ}
+use Rattle.std.specs.Prelude.{◌≡◌}
 use Rattle.reading.specs.Readings.{gives}
 use Rattle.syntax.specs.Rules.{Rule}
 use Rattle.syntax.specs.Trees.{Tree}

@@ -8,7 +8,6 @@ ghost use Rattle.reading.specs.Readings.{meter_end};
 ghost use Rattle.inference.specs.Nodes.{typed};
 ghost use Rattle.types.specs.GivenTypings.{GivesTypings};
 ghost use Rattle.inference.proofs.TypesLaws.{types_sound};
-ghost use Rattle.std.proofs.Common.{rules, arith};
 
 use inference::node::{TYPES_LIMIT, is_allowed, write_node};
 use reading::{MAX_METER, Reading};
@@ -48,9 +47,9 @@ impl Reading for Types {
 
     ghost metered = { λ x. x.meter };
 
-    ghost sound = { λ x. types_sound };
+    ghost sound = { λ _. types_sound };
 
-    ghost within = { first_of (Prim.search rules, Prim.grind (arith, Self.row.coded.inj)) };
+    ghost within = { λ x. x.within };
 
     fn limit(&self) -> usize {
         TYPES_LIMIT

@@ -10,15 +10,15 @@ use crate::outcome::Outcome;
 use crate::solve::solve;
 
 impl Draft {
-    pub(crate) fn solve(&mut self, res: usize) -> Outcome
-        requires { Ready (state_of self.old) res }
-        ensures* { λ r. ⌜ Concludes (finished_at (record { entries = (state_of self.old).slots; result = res }) (unify (state_of self.old).graph (state_of self.old).pairs)) r ⌝ }
+    pub(crate) fn solve(&mut self, type_cell: usize) -> Outcome
+        requires { Ready (state_of self.old) type_cell }
+        ensures { Concludes (finished_at (record { entries = (state_of self.old).slots; result = type_cell }) (unify (state_of self.old).graph (state_of self.old).pairs)) result }
     {
         solve(
             &mut self.table,
             &mut self.pairs,
             self.entries.as_slice(),
-            res,
+            type_cell,
         )
     }
 }

@@ -4,4 +4,4 @@ use Rattle.forms.proofs.EntrySteps.{four_bytes}
 use Rattle.forms.proofs.entries.is_name.Goals as goal
 
 pub returns : goal.returns
-returns c = c.is-valid.ensures ∙ ap is_name (four_bytes _ c.requires)
+returns c = c.is_valid.ensures ∙ ap is_name (four_bytes _ c.requires)

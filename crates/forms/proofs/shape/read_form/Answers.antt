@@ -6,26 +6,26 @@ use Rattle.forms.proofs.FormSteps.{form_no_entries, form_no_type, form_left_over
 use Rattle.forms.proofs.Tokens.{bytes_each}
 use Rattle.forms.proofs.shape.read_form.Goals as goal
 
-pub returns-in-err-result : goal.returns-in-err-result
-returns-in-err-result c =
-    let p = err_from_is_err_and c.from-residual-in-err-result.result c.from-residual-in-err-result.ensures.1 in
-    let why = c.in-err-result.ensures.value in
-    let none = subst (λ seen. skip_entries c.in-ok-count.count [] seen c.in-ok-count.entries.now ≡ None) c.new-variables.ensures.none why.1 in
-    rw (p.1, p.2, why.0) (form_no_entries _ c.if-bytes-gt-MAX-FORM.false _ _ c.in-ok-count.ensures.0 none)
+pub returns-in_err-result : goal.returns-in_err-result
+returns-in_err-result c =
+    let p = err_from_is_err_and c.from_residual-in_err-result.result c.from_residual-in_err-result.ensures.1 in
+    let why = c.in_err-result.ensures.value in
+    let none = subst (λ seen. skip_entries c.in_ok-count.count [] seen c.in_ok-count.entries.now ≡ None) c.new-variables.ensures.none why.1 in
+    rw (p.1, p.2, why.0) (form_no_entries _ c.if-bytes-gt-MAX_FORM.false _ _ c.in_ok-count.ensures.0 none)
 
-pub returns-in-err-rest : goal.returns-in-err-rest
-returns-in-err-rest c =
-    let p = err_from_is_err_and c.from-residual-in-err-rest.result c.from-residual-in-err-rest.ensures.1 in
-    let why = c.in-err-rest.ensures.value in
-    let went = subst (λ seen. skip_entries c.in-ok-count.count [] seen c.in-ok-count.entries.now ≡ Some (seen_of c.read-entries.new.variables, c.in-ok-result.result.now)) c.new-variables.ensures.none c.in-ok-result.ensures.value in
-    rw (p.1, p.2, why.0) (form_no_type _ c.if-bytes-gt-MAX-FORM.false _ _ c.in-ok-count.ensures.0 _ _ went why.1)
+pub returns-in_err-rest : goal.returns-in_err-rest
+returns-in_err-rest c =
+    let p = err_from_is_err_and c.from_residual-in_err-rest.result c.from_residual-in_err-rest.ensures.1 in
+    let why = c.in_err-rest.ensures.value in
+    let went = subst (λ seen. skip_entries c.in_ok-count.count [] seen c.in_ok-count.entries.now ≡ Some (seen_of c.read_entries.new.variables, c.in_ok-result.result.now)) c.new-variables.ensures.none c.in_ok-result.ensures.value in
+    rw (p.1, p.2, why.0) (form_no_type _ c.if-bytes-gt-MAX_FORM.false _ _ c.in_ok-count.ensures.0 _ _ went why.1)
 
-pub returns-then-not-is-empty : goal.returns-then-not-is-empty
-returns-then-not-is-empty c =
-    let went = subst (λ seen. skip_entries c.in-ok-count.count [] seen c.in-ok-count.entries.now ≡ Some (seen_of c.read-entries.new.variables, c.in-ok-result.result.now)) c.new-variables.ensures.none c.in-ok-result.ensures.value in
-    form_left_over _ c.if-bytes-gt-MAX-FORM.false _ _ c.in-ok-count.ensures.0 _ _ went _ _ c.in-ok-rest.ensures.value c.if-not-is-empty.ensures
+pub returns-then-not-is_empty : goal.returns-then-not-is_empty
+returns-then-not-is_empty c =
+    let went = subst (λ seen. skip_entries c.in_ok-count.count [] seen c.in_ok-count.entries.now ≡ Some (seen_of c.read_entries.new.variables, c.in_ok-result.result.now)) c.new-variables.ensures.none c.in_ok-result.ensures.value in
+    form_left_over _ c.if-bytes-gt-MAX_FORM.false _ _ c.in_ok-count.ensures.0 _ _ went _ _ c.in_ok-rest.ensures.value c.if-not-is_empty.ensures
 
 pub returns : goal.returns
 returns c =
-    let went = subst (λ seen. skip_entries c.in-ok-count.count [] seen c.in-ok-count.entries.now ≡ Some (seen_of c.read-entries.new.variables, c.in-ok-result.result.now)) c.new-variables.ensures.none c.in-ok-result.ensures.value in
-    form_is _ c.if-bytes-gt-MAX-FORM.false _ _ c.in-ok-count.ensures.0 _ _ went _ _ c.in-ok-rest.ensures.value (bytes_each _ (λ i. (c.type-inv.bytes i).fits)) c.if-not-is-empty.ensures _ (sym (length-map _ sort_of) ∙ ap length c.as-slice.ensures)
+    let went = subst (λ seen. skip_entries c.in_ok-count.count [] seen c.in_ok-count.entries.now ≡ Some (seen_of c.read_entries.new.variables, c.in_ok-result.result.now)) c.new-variables.ensures.none c.in_ok-result.ensures.value in
+    form_is _ c.if-bytes-gt-MAX_FORM.false _ _ c.in_ok-count.ensures.0 _ _ went _ _ c.in_ok-rest.ensures.value (bytes_each _ (λ i. (c.type_inv.bytes i).fits)) c.if-not-is_empty.ensures _ (sym (length-map _ sort_of) ∙ ap length c.as_slice.ensures)

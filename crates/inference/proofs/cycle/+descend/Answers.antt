@@ -5,7 +5,7 @@ use Rattle.inference.specs.Walks.{Walked}
 use Rattle.inference.specs.declared.cycle.Mark.TheVariants.{Open, Done}
 use Rattle.inference.proofs.Walking.{back, already, first_sinks, second_sinks, parts_walked, leaf_walked, entering_less}
 use Rattle.inference.proofs.cycle.+descend.Goals as goal
-use Rattle.inference.proofs.cycle.+descend.Goals.{in-Apply+else-not-descend+else-not-descend-2, in-default}
+use Rattle.inference.proofs.cycle.+descend.Goals.{in-Apply+else-not-descend+else-not-descend-2, in_default}
 
 pub returns-in-Open : goal.returns-in-Open
 returns-in-Open t c =
@@ -59,7 +59,7 @@ returns t c =
         | in-Apply+else-not-descend+else-not-descend-2 w ↦
             subst (λ m. Walked g ms c.args.start (set m r Done)) (sym w.marks-is)
             (parts_walked g ms _ r root within _ refl _ _ w.in-Apply.is _ _ (omega (arith, w.descend.auto.marks, w.descend-in-Apply.auto.marks, length-set ms r Open)) c.in-Unseen.is (w.if-not-descend.ensures.passes refl) (w.if-not-descend-2.ensures.passes refl))
-        | in-default w ↦
-            subst (λ m. Walked g ms c.args.start (set m r Done)) (sym w.marks-is) (leaf_walked g ms _ r root within c.in-Unseen.is w.in-default.not-Apply)
+        | in_default w ↦
+            subst (λ m. Walked g ms c.args.start (set m r Done)) (sym w.marks-is) (leaf_walked g ms _ r root within c.in-Unseen.is w.in_default.not-Apply)
       ];
     }

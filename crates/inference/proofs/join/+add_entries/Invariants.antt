@@ -1,4 +1,4 @@
 use Rattle.inference.proofs.join.+add_entries.Given as goal
 
-abbrev pub decreases-add-entries : goal.decreases-add-entries
-decreases-add-entries l = l.count
+abbrev pub decreases-add_entries : goal.decreases-add_entries
+decreases-add_entries l = l.count

@@ -4,16 +4,16 @@ use Rattle.forms.proofs.Tokens.{bytes_each}
 use Rattle.inference.proofs.ChildFacts.{at_within, child_formed}
 use Rattle.inference.proofs.join.add_child.Goals as goal
 
-pub slice-bounds-add-form-count : goal.slice-bounds-add-form-count
-slice-bounds-add-form-count c = at_within _ _ (bytes_each _ (λ i. (c.type-inv.text i).fits)) c.requires.outline
+pub slice_bounds-add_form-count : goal.slice_bounds-add_form-count
+slice_bounds-add_form-count c = at_within _ _ (bytes_each _ (λ i. (c.type_inv.text i).fits)) c.requires.outline
 
-pub slice-bounds-add-form-start : goal.slice-bounds-add-form-start
-slice-bounds-add-form-start c =
-    let le : c.args.outline.entries_at ≤ length c.args.text.now = at_within _ _ (bytes_each _ (λ i. (c.type-inv.text i).fits)) c.requires.outline in
+pub slice_bounds-add_form-start : goal.slice_bounds-add_form-start
+slice_bounds-add_form-start c =
+    let le : c.args.outline.entries_at ≤ length c.args.text.now = at_within _ _ (bytes_each _ (λ i. (c.type_inv.text i).fits)) c.requires.outline in
     search rules
 
 pub returns-in-Formed : goal.returns-in-Formed
 returns-in-Formed c =
     let text = c.args.text.now in
     let at = c.args.outline.entries_at in
-    child_formed text _ (bytes_each _ (λ i. (c.type-inv.text i).fits)) c.requires.outline _ _ _ _ _ (take_all _ (drop at text) (omega (arith, length-drop at text))) c.in-Formed.is c.add-form.ensures
+    child_formed text _ (bytes_each _ (λ i. (c.type_inv.text i).fits)) c.requires.outline _ _ _ _ _ (take_all _ (drop at text) (omega (arith, length-drop at text))) c.in-Formed.is c.add_form.ensures

@@ -6,4 +6,4 @@ loop-i-preserved c =
     link_step _ c.args.cells.now c.requires.tidy c.loop-i.i c.in-Link.j c.args.start c.loop-i.invariant.0 c.in-Link.is c.loop-i.invariant.1
 
 pub returns : goal.returns
-returns c = record { value = link_ends c.args.cells.now c.loop-i.i c.args.start c.in-default.not-Link c.loop-i.invariant.1; bound = c.loop-i.invariant.0 }
+returns c = record { value = link_ends c.args.cells.now c.loop-i.i c.args.start c.in_default.not-Link c.loop-i.invariant.1; bound = c.loop-i.invariant.0 }

@@ -1,6 +1,5 @@
-use Rattle.std.proofs.Common.{◌≡◌, ◌<◌, ◌≤◌, true, sym, ◌∙◌, arith, rules}
+use Rattle.std.proofs.Common.{◌≡◌, ◌≤◌, true, sym, ◌∙◌, arith, rules}
 use Rattle.syntax.specs.Arguments.{fits}
-use Rattle.reading.specs.Readings.{meter_end}
 use Rattle.reading.proofs.Refusals.{all_goes, all_stops, all_ends, by_number, by_string, by_none}
 use Rattle.inference.specs.Nodes.{typed}
 use Rattle.inference.proofs.node.admit.Goals as goal
@@ -11,14 +10,14 @@ returns-then-parts-arity c =
     let long : 247 ≤ c.args.room = omega arith in
     by_number typed 0 c.args.symbol _ _ fit (omega arith) long (λ e. c.if-parts-arity.true (e ∙ sym c.arity.ensures))
 
-pub returns-then-not-is-allowed : goal.returns-then-not-is-allowed
-returns-then-not-is-allowed c =
+pub returns-then-not-is_allowed : goal.returns-then-not-is_allowed
+returns-then-not-is_allowed c =
     let fit : fits c.args.symbol ≡ true = search rules in
     let long : 247 ≤ c.args.room = omega arith in
-    by_string typed 0 c.args.symbol _ _ fit (omega arith) long (sym c.loop-part.invariant ∙ all_stops typed _ _ _ c.loop-part-test.true (sym c.if-not-is-allowed.ensures))
+    by_string typed 0 c.args.symbol _ _ fit (omega arith) long (sym c.loop-part.invariant ∙ all_stops typed _ _ _ c.loop-part-test.true (sym c.if-not-is_allowed.ensures))
 
 pub loop-part-preserved : goal.loop-part-preserved
-loop-part-preserved c = sym (all_goes typed _ _ _ c.loop-part-test.true (sym c.if-not-is-allowed.ensures)) ∙ c.loop-part.invariant
+loop-part-preserved c = sym (all_goes typed _ _ _ c.loop-part-test.true (sym c.if-not-is_allowed.ensures)) ∙ c.loop-part.invariant
 
 pub returns : goal.returns
 returns c =

@@ -19,6 +19,6 @@ conclude-requires c =
     record {
       tidy = subst (λ n. Tidy n g') long tidy;
       entries = subst (λ n. EntriesWithin n c.args.entries.now) long c.requires.entries;
-      inside = subst (λ n. c.args.res < n) long c.requires.inside;
+      inside = subst (λ n. c.args.type_cell < n) long c.requires.inside;
       few = c.requires.few;
     }

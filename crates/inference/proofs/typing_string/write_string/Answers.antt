@@ -10,8 +10,8 @@ returns c =
     let o = c.args.outcome.now in
     let t = c.args.tally in
     let out = c.args.out.now in
-    let one = c.put-count-overlongs in
-    let two = c.put-count-holes in
-    let three = c.put-count-form in
-    let whole = string_put (byte_of o) (group t.clashes) (group t.overlongs) (group t.holes) (bytes_of o) out one.new.out two.new.out three.new.out c.copy-to.new.out one.result two.result three.result c.copy-to.result (omega (arith, c.requires.room)) one.ensures.end (one.ensures.wrote ∙ ap (λ s. put_at 1 (group t.clashes) (set out 0 s)) c.status.ensures) two.ensures.end two.ensures.wrote three.ensures.end three.ensures.wrote c.copy-to.ensures.end c.copy-to.ensures.wrote in
+    let one = c.put_count-overlongs in
+    let two = c.put_count-holes in
+    let three = c.put_count-form in
+    let whole = string_put (byte_of o) (group t.clashes) (group t.overlongs) (group t.holes) (bytes_of o) out one.new.out two.new.out three.new.out c.copy_to.new.out one.result two.result three.result c.copy_to.result (omega (arith, c.requires.room)) one.ensures.end (one.ensures.wrote ∙ ap (λ s. put_at 1 (group t.clashes) (set out 0 s)) c.status.ensures) two.ensures.end two.ensures.wrote three.ensures.end three.ensures.wrote c.copy_to.ensures.end c.copy_to.ensures.wrote in
     record { long = whole.0; wrote = whole.1 }

@@ -1,5 +1,5 @@
-use Rattle.std.proofs.Common.{◌≡◌, ℕ, suc, ◌-◌, ◌<◌, length, Some, sym, refl, ap, ◌∙◌, subst, arith, length-set}
-use Rattle.typing.specs.Cells.{Graph, Pairs, step}
+use Rattle.std.proofs.Common.{◌≡◌, ℕ, suc, ◌-◌, ◌<◌, Some, ap, ◌∙◌, subst, arith, length-set}
+use Rattle.typing.specs.Cells.{Graph, Pairs}
 use Rattle.inference.specs.Meetings.{stepped}
 use Rattle.inference.specs.Worklists.{stacked}
 use Rattle.inference.proofs.Running.{Going, clashed, passed, parted, room_for_parts, finished}
@@ -12,19 +12,19 @@ top start pairs g stack left some going = let one : left ≡ suc (left - 1) = om
 pub equate-requires : goal.equate-requires
 equate-requires c =
     let here = top _ _ _ _ _ c.loop-left-test.true c.loop-left.invariant in
-    record { a-within = here.within.0; b-within = here.within.1; tidy = here.tidy }
+    record { a_within = here.within.0; b_within = here.within.1; tidy = here.tidy }
 
-pub loop-left-smaller-in-default : goal.loop-left-smaller-in-default
-loop-left-smaller-in-default c =
+pub loop-left-smaller-in_default : goal.loop-left-smaller-in_default
+loop-left-smaller-in_default c =
     let here = top _ _ _ _ _ c.loop-left-test.true c.loop-left.invariant in
     let rest = stacked (c.loop-left.left - 1) c.loop-left.stack in
-    omega (arith, (passed _ _ _ _ _ here c.equate.new.cells (c.in-default.ensures rest)).1)
+    omega (arith, (passed _ _ _ _ _ here c.equate.new.cells (c.in_default.ensures rest)).1)
 
-pub loop-left-preserved-in-default : goal.loop-left-preserved-in-default
-loop-left-preserved-in-default c =
+pub loop-left-preserved-in_default : goal.loop-left-preserved-in_default
+loop-left-preserved-in_default c =
     let here = top _ _ _ _ _ c.loop-left-test.true c.loop-left.invariant in
     let rest = stacked (c.loop-left.left - 1) c.loop-left.stack in
-    (passed _ _ _ _ _ here c.equate.new.cells (c.in-default.ensures rest)).0
+    (passed _ _ _ _ _ here c.equate.new.cells (c.in_default.ensures rest)).0
 
 pub returns-in-Clash : goal.returns-in-Clash
 returns-in-Clash c =

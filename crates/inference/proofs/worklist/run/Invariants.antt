@@ -1,5 +1,4 @@
-use Rattle.std.proofs.Common.{◌≡◌, ◌+◌, ◌*◌, ◌≤◌, length}
-use Rattle.typing.specs.Cells.{unify}
+use Rattle.std.proofs.Common.{◌+◌, ◌*◌}
 use Rattle.typing.specs.Solutions.{live}
 use Rattle.inference.specs.Worklists.{stacked}
 use Rattle.inference.proofs.Running.{Going}

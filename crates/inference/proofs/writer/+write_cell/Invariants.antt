@@ -1,4 +1,4 @@
 use Rattle.inference.proofs.writer.+write_cell.Given as goal
 
-abbrev pub decreases-write-cell : goal.decreases-write-cell
-decreases-write-cell l = l.depth
+abbrev pub decreases-write_cell : goal.decreases-write_cell
+decreases-write_cell l = l.depth

@@ -9,11 +9,11 @@ put-requires t c = omega (arith, ap length (decimal_digit c.args.n c.if-n-lt10.t
 pub returns-then-n-lt10 : goal.returns-then-n-lt10
 returns-then-n-lt10 t c = grew_digit _ _ _ _ _ c.if-n-lt10.true c.put.ensures
 
-pub put-decimal-at-requires : goal.put-decimal-at-requires
-put-decimal-at-requires t c = (omega arith, omega (arith, longer c.args.n c.if-n-lt10.false (omega arith)))
+pub put_decimal-at-requires : goal.put_decimal-at-requires
+put_decimal-at-requires t c = (omega arith, omega (arith, longer c.args.n c.if-n-lt10.false (omega arith)))
 
 pub put-requires-2 : goal.put-requires-2
-put-requires-2 t c = omega (arith, longer c.args.n c.if-n-lt10.false (omega arith), c.put-decimal-at.ensures.long)
+put-requires-2 t c = omega (arith, longer c.args.n c.if-n-lt10.false (omega arith), c.put_decimal-at.ensures.long)
 
 pub returns : goal.returns
-returns t c = grew_digits _ _ _ _ _ _ _ c.if-n-lt10.false (omega arith) c.put-decimal-at.ensures c.put-2.ensures
+returns t c = grew_digits _ _ _ _ _ _ _ c.if-n-lt10.false (omega arith) c.put_decimal-at.ensures c.put-2.ensures

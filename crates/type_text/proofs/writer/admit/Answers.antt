@@ -4,5 +4,5 @@ use Rattle.type_text.proofs.writer.admit.Goals as goal
 
 pub returns : goal.returns
 returns c =
-    let found = c.find-type.ensures in
-    record { value = found; within = admitted_within _ _ c.find-type.result (bytes_each _ (λ i. (c.type-inv.text i).fits)) found }
+    let found = c.find_type.ensures in
+    record { value = found; within = admitted_within _ _ c.find_type.result (bytes_each _ (λ i. (c.type_inv.text i).fits)) found }

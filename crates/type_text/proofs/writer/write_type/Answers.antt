@@ -6,18 +6,18 @@ use Rattle.type_text.proofs.Admitting.{admitted_refused, admitted_typed, typed_n
 use Rattle.type_text.proofs.Lengths.{type_text_fits}
 use Rattle.type_text.proofs.writer.write_type.Goals as goal
 
-pub returns-in-err-at : goal.returns-in-err-at
-returns-in-err-at c =
-    let p = err_from_is_err_and c.from-residual.result c.from-residual.ensures.1 in
-    let why = admitted_refused (length c.args.out.now) (read_typing 4 c.args.text.now) c.in-err-at.field-0.0 c.in-err-at.ensures.value in
+pub returns-in_err-at : goal.returns-in_err-at
+returns-in_err-at c =
+    let p = err_from_is_err_and c.from_residual.result c.from_residual.ensures.1 in
+    let why = admitted_refused (length c.args.out.now) (read_typing 4 c.args.text.now) c.in_err-at.field-0.0 c.in_err-at.ensures.value in
     record { answer = rw (p.1, p.2, why) (refl, refl); fits = type_text_fits }
 
 pub returns-in-Some : goal.returns-in-Some
 returns-in-Some c =
-    let typed = admitted_typed _ _ _ (bytes_each _ (λ i. (c.type-inv.text i).fits)) c.in-ok-at.ensures.value in
+    let typed = admitted_typed _ _ _ (bytes_each _ (λ i. (c.type_inv.text i).fits)) c.in_ok-at.ensures.value in
     record { answer = typed_written _ _ _ typed _ _ _ (λ t rest so is. (c.in-Some.ensures.text t rest so is).1); fits = type_text_fits }
 
 pub returns-in-None : goal.returns-in-None
 returns-in-None c =
-    let typed = admitted_typed _ _ _ (bytes_each _ (λ i. (c.type-inv.text i).fits)) c.in-ok-at.ensures.value in
+    let typed = admitted_typed _ _ _ (bytes_each _ (λ i. (c.type_inv.text i).fits)) c.in_ok-at.ensures.value in
     absurd (typed_nothing _ _ _ typed c.in-None.ensures.text)

@@ -8,7 +8,7 @@ use Rattle.inference.proofs.draft.Draft.solve.Goals as goal
 
 pub solve-requires : goal.solve-requires
 solve-requires c =
-    let listed = c.as-slice.ensures.value in
+    let listed = c.as_slice.ensures.value in
     let n = length (graph_of c.args.self.now.table) in
     record {
       tidy = c.requires.tidy;

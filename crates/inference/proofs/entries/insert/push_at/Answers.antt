@@ -1,4 +1,4 @@
-use Rattle.std.proofs.Common.{◌<◌, ◌≤◌, length, sym, ◌∙◌, arith, rules}
+use Rattle.std.proofs.Common.{sym, ◌∙◌, arith}
 use Rattle.inference.proofs.Slotting.{carried_on, carried_out}
 use Rattle.inference.proofs.entries.insert.push_at.Goals as goal
 

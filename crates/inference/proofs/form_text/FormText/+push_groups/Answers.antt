@@ -8,19 +8,19 @@ use Rattle.inference.proofs.form_text.FormText.+push_groups.Goals as goal
 pub returns-then-value-lt128 : goal.returns-then-value-lt128
 returns-then-value-lt128 t c = rw (groups_last c.args.more c.args.value c.then-value-lt128.either) c.push.ensures
 
-pub returns-in-err-push : goal.returns-in-err-push
-returns-in-err-push t c =
+pub returns-in_err-push : goal.returns-in_err-push
+returns-in_err-push t c =
     let value = c.args.value in
     let some : 0 < c.args.more = omega arith in
-    rw (c.from-residual.ensures, groups_more c.args.more value some c.if-value-lt128.false)
-    (full_then ((128 + value % 128) ∷ []) (groups (c.args.more - 1) (value / 128)) _ c.in-err-push.ensures)
+    rw (c.from_residual.ensures, groups_more c.args.more value some c.if-value-lt128.false)
+    (full_then ((128 + value % 128) ∷ []) (groups (c.args.more - 1) (value / 128)) _ c.in_err-push.ensures)
 
-pub push-groups-requires : goal.push-groups-requires
-push-groups-requires t c = let some : 0 < c.args.more = omega arith in (omega (arith, c.decreases), bound_more _ _ some c.requires)
+pub push_groups-requires : goal.push_groups-requires
+push_groups-requires t c = let some : 0 < c.args.more = omega arith in (omega (arith, c.decreases), bound_more _ _ some c.requires)
 
 pub returns : goal.returns
 returns t c =
     let value = c.args.value in
     let some : 0 < c.args.more = omega arith in
     rw (groups_more c.args.more value some c.if-value-lt128.false)
-    (added_then ((128 + value % 128) ∷ []) (groups (c.args.more - 1) (value / 128)) (text_of c.args.self.now) (text_of c.push-2.new.self) (text_of c.push-groups.new.self) c.push-groups.result c.in-ok-push.ensures c.push-groups.ensures)
+    (added_then ((128 + value % 128) ∷ []) (groups (c.args.more - 1) (value / 128)) (text_of c.args.self.now) (text_of c.push-2.new.self) (text_of c.push_groups.new.self) c.push_groups.result c.in_ok-push.ensures c.push_groups.ensures)

@@ -1,4 +1,4 @@
 use Rattle.inference.proofs.form_text.FormText.+push_groups.Given as goal
 
-abbrev pub decreases-push-groups : goal.decreases-push-groups
-decreases-push-groups l = l.more
+abbrev pub decreases-push_groups : goal.decreases-push_groups
+decreases-push_groups l = l.more

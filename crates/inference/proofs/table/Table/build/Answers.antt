@@ -3,20 +3,20 @@ use Rattle.inference.specs.Tables.{graph_of}
 use Rattle.inference.proofs.Building.{build_longer, applied_all, applied_more, no_room, part_no_room}
 use Rattle.inference.proofs.table.Table.build.Goals as goal
 
-pub returns-in-err-cell : goal.returns-in-err-cell
-returns-in-err-cell c =
-    no_room _ _ _ c.from-residual.ensures.0 (omega (arith, build_longer c.args.head c.args.parts.now (graph_of c.args.self.now), c.in-err-cell.ensures))
+pub returns-in_err-cell : goal.returns-in_err-cell
+returns-in_err-cell c =
+    no_room _ _ _ c.from_residual.ensures.0 (omega (arith, build_longer c.args.head c.args.parts.now (graph_of c.args.self.now), c.in_err-cell.ensures))
 
-pub returns-in-err-cell-2 : goal.returns-in-err-cell-2
-returns-in-err-cell-2 c =
-    no_room _ _ _ c.from-residual-in-err-cell-2.ensures.0 (part_no_room _ _ _ _ _ _ _ c.loop-i.i (omega arith) c.in-ok-cell.ensures.1 c.loop-i.invariant c.in-err-cell-2.ensures)
+pub returns-in_err-cell-2 : goal.returns-in_err-cell-2
+returns-in_err-cell-2 c =
+    no_room _ _ _ c.from_residual-in_err-cell-2.ensures.0 (part_no_room _ _ _ _ _ _ _ c.loop-i.i (omega arith) c.in_ok-cell.ensures.1 c.loop-i.invariant c.in_err-cell-2.ensures)
 
 pub loop-i-preserved : goal.loop-i-preserved
 loop-i-preserved c =
-    let p = c.in-ok-cell-2.ensures in
+    let p = c.in_ok-cell-2.ensures in
     applied_more _ _ _ _ 0 _ c.loop-i.i _ (omega arith) p.1 p.0 ∙ c.loop-i.invariant
 
 pub returns : goal.returns
 returns c =
-    let p = c.in-ok-cell.ensures in
+    let p = c.in_ok-cell.ensures in
     applied_all _ _ _ _ _ _ _ c.loop-i.i (omega arith) p.1 p.0 c.loop-i.invariant

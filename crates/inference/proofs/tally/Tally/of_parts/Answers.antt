@@ -5,17 +5,17 @@ use Rattle.inference.proofs.tally.Tally.of_parts.Goals as goal
 
 pub plus-tally-requires : goal.plus-tally-requires
 plus-tally-requires c =
-    record { others = few_so_far _ _ _ c.loop-part-test.true c.requires c.loop-part.invariant; child = c.in-ok-of-string.ensures.held }
+    record { others = few_so_far _ _ _ c.loop-part-test.true c.requires c.loop-part.invariant; child = c.in_ok-of_string.ensures.held }
 
-pub returns-in-err-of-string : goal.returns-in-err-of-string
-returns-in-err-of-string c =
-    let err = err_from_is_err_and c.from-residual.result c.from-residual.ensures.1 in
-    summed_stops _ _ _ c.loop-part-test.true _ c.loop-part.invariant _ _ (err.1 ∙ ap Err err.2) c.in-err-of-string.ensures
+pub returns-in_err-of_string : goal.returns-in_err-of_string
+returns-in_err-of_string c =
+    let err = err_from_is_err_and c.from_residual.result c.from_residual.ensures.1 in
+    summed_stops _ _ _ c.loop-part-test.true _ c.loop-part.invariant _ _ (err.1 ∙ ap Err err.2) c.in_err-of_string.ensures
 
 pub loop-part-preserved : goal.loop-part-preserved
 loop-part-preserved c =
     let sum = c.plus-tally.ensures in
-    summed_more _ _ _ c.loop-part-test.true _ c.loop-part.invariant _ _ c.in-ok-of-string.ensures sum.clashes sum.overlongs sum.holes
+    summed_more _ _ _ c.loop-part-test.true _ c.loop-part.invariant _ _ c.in_ok-of_string.ensures sum.clashes sum.overlongs sum.holes
 
 pub returns : goal.returns
 returns c = summed_all _ _ _ c.loop-part-test.false (omega (arith, c.requires, c.loop-part.auto.part-index-end)) c.loop-part.invariant
