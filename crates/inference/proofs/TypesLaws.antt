@@ -1,7 +1,7 @@
 -- The typing reading keeps the laws of readings. Assumes nothing.
 use Rattle.std.proofs.Common.{◌≡◌, ℕ, zero, suc, ◌+◌, ◌/◌, ◌<◌, ◌≤◌, true, ◌&&◌, eqb, ltb, ◌⊎◌, List, [], ◌∷◌, ◌++◌, length, sym, refl, ap, subst, inl, inr, arith, length-append}
 use Rattle.std.proofs.lemmas.Bool.{and_from, and_parts, cases_lt, eqb-true, lt-ltb}
-use Rattle.std.specs.List.{AllByRecursion as All}
+use Rattle.std.specs.List.{AllByRecursion}
 use Rattle.layout.specs.Groups.{bound, group, groups}
 use Rattle.layout.proofs.Groups.{groups_small, groups_large}
 use Rattle.reading.specs.Readings.{Sound, allows_all, suits}
@@ -35,7 +35,7 @@ bytes_join : (xs ys : List ℕ) → Bytes xs → Bytes ys → Bytes (xs ++ ys)
 bytes_join [] ys first rest = rest
 bytes_join (x ∷ xs) ys first rest = (first.0, bytes_join xs ys first.1 rest)
 
-low_bytes : (xs : List ℕ) → All Low xs → Bytes xs
+low_bytes : (xs : List ℕ) → AllByRecursion Low xs → Bytes xs
 low_bytes [] low = tt
 low_bytes (x ∷ xs) low = (low.0, low_bytes xs low.1)
 
