@@ -1,5 +1,5 @@
 // How a line comes in.
-ghost use Rattle.std.specs.Prelude.{◌≡◌, ltb, [], ◌∷◌, ◌++◌, length, if◌then◌else◌, nat_lt};
+ghost use Rattle.std.specs.Prelude.{◌≡◌, [], ◌∷◌, ◌++◌, length, if◌then◌else◌, nat_lt};
 ghost use Rattle.ask.specs.LineBuffers.{kept};
 
 use crate::line_buffer::{KEPT, LineBuffer};
@@ -16,7 +16,7 @@ impl LineBuffer {
 
     // Adds a byte, unless the line is too long already.
     pub fn push(&mut self, b: u8)
-        ensures { kept self.new ≡ (if ltb (length (kept self.old)) 4097 then kept self.old ++ b ∷ [] else kept self.old) }
+        ensures { kept self.new ≡ (if nat_lt (length (kept self.old)) 4097 then kept self.old ++ b ∷ [] else kept self.old) }
     {
         let n = self.len;
         if n < KEPT {
