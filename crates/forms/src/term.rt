@@ -26,7 +26,7 @@ pub(crate) fn read_number(bytes: &[u8]) -> Result<(u32, &[u8]), Fault>
 }
 
 // The bytes behind the type that stands at the front.
-#[cycle(read_place_read_type)]
+#[cycle(reads_term)]
 pub(crate) fn read_type<'a>(bytes: &'a [u8], variables: &mut Variables) -> Result<&'a [u8], Fault>
     requires { variables.old.len + length bytes.now ≤ 240 }
     ensures value { Skipped (skip_terms (type ∷ []) (seen_of variables.old) bytes.now) (seen_of variables.new) result }
@@ -55,7 +55,7 @@ pub(crate) fn read_type<'a>(bytes: &'a [u8], variables: &mut Variables) -> Resul
 }
 
 // The bytes behind the place that stands at the front.
-#[cycle(read_place_read_type)]
+#[cycle(reads_term)]
 fn read_place<'a>(bytes: &'a [u8], variables: &mut Variables) -> Result<&'a [u8], Fault>
     requires { variables.old.len + length bytes.now ≤ 240 }
     ensures value { Skipped (skip_terms (place ∷ []) (seen_of variables.old) bytes.now) (seen_of variables.new) result }

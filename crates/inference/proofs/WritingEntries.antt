@@ -14,7 +14,7 @@ use Rattle.inference.specs.declared.entry.Entry.{Entry}
 use Rattle.inference.proofs.Spelling.{spelled_entry, seen_entry, spelled_form, seen_few, seen_few_all}
 
 -- the entry at place i, which is the next one
-module _ (g : Graph) (es : List Entry) (i : ℕ) (d : Entry) (start Seen-first text seen : List ℕ) (go : EntriesGo g es i start Seen-first text seen) (lt : i < length es) where
+module _ (g : Graph) (es : List Entry) (i : ℕ) (d : Entry) (start seen_first text seen : List ℕ) (go : EntriesGo g es i start seen_first text seen) (lt : i < length es) where
   abbrev entry : Entry
   entry = get_or es i d
 
@@ -28,29 +28,29 @@ module _ (g : Graph) (es : List Entry) (i : ℕ) (d : Entry) (start Seen-first t
   here = ap (λ xs. entries_at g (slots_of xs)) (drop_more es i d lt) ∙ ap (λ n. (entry.name.0, readback n g entry.cell) ∷ rest) (sym (add-one (length g)))
 
   -- what is left to write begins with this entry
-  bytes_here : text ++ (entry.name.0 ++ (spelled seen term ++ spelled_all (seen_after seen term) rest)) ≡ start ++ spelled_all Seen-first (entries_at g (slots_of es))
+  bytes_here : text ++ (entry.name.0 ++ (spelled seen term ++ spelled_all (seen_after seen term) rest)) ≡ start ++ spelled_all seen_first (entries_at g (slots_of es))
   bytes_here = sym (ap (λ z. text ++ z) (ap (spelled_all seen) here ∙ spelled_entry entry.name.0 term rest seen)) ∙ go.bytes
 
   pub entry_within : entry.cell < length g
   entry_within = (subst (EntriesWithin (length g)) (drop_more es i d lt) go.within).0
 
-  long : length start + length (spelled_all Seen-first (entries_at g (slots_of es))) ≡ length text + (length entry.name.0 + (length (spelled seen term) + length (spelled_all (seen_after seen term) rest)))
+  long : length start + length (spelled_all seen_first (entries_at g (slots_of es))) ≡ length text + (length entry.name.0 + (length (spelled seen term) + length (spelled_all (seen_after seen term) rest)))
   long =
       let S = spelled seen term in
       let R = spelled_all (seen_after seen term) rest in
-      omega (arith, ap length bytes_here, length-append start (spelled_all Seen-first (entries_at g (slots_of es))), length-append text (entry.name.0 ++ (S ++ R)), length-append entry.name.0 (S ++ R), length-append S R)
+      omega (arith, ap length bytes_here, length-append start (spelled_all seen_first (entries_at g (slots_of es))), length-append text (entry.name.0 ++ (S ++ R)), length-append entry.name.0 (S ++ R), length-append S R)
 
-  pub full_name : longest < length text + length entry.name.0 → longest < length start + length (spelled_all Seen-first (entries_at g (slots_of es)))
+  pub full_name : longest < length text + length entry.name.0 → longest < length start + length (spelled_all seen_first (entries_at g (slots_of es)))
   full_name full = omega (arith, full, long)
 
   module _ (named : List ℕ) (is : named ≡ text ++ entry.name.0) where
     pub fewer_named : length seen ≤ length named
     fewer_named = omega (arith, go.fewer, ap length is, length-append text entry.name.0)
 
-    pub full_cell : longest < length named + length (spelled seen term) → longest < length start + length (spelled_all Seen-first (entries_at g (slots_of es)))
+    pub full_cell : longest < length named + length (spelled seen term) → longest < length start + length (spelled_all seen_first (entries_at g (slots_of es)))
     full_cell full = omega (arith, full, long, ap length is, length-append text entry.name.0)
 
-    pub entries_again : (after seen' : List ℕ) → (after ≡ named ++ spelled seen term) × (seen' ≡ seen_after seen term) → EntriesGo g es (i + 1) start Seen-first after seen'
+    pub entries_again : (after seen' : List ℕ) → (after ≡ named ++ spelled seen term) × (seen' ≡ seen_after seen term) → EntriesGo g es (i + 1) start seen_first after seen'
     entries_again after seen' wrote =
         let S = spelled seen term in
         let R = spelled_all (seen_after seen term) rest in
@@ -62,8 +62,8 @@ module _ (g : Graph) (es : List Entry) (i : ℕ) (d : Entry) (start Seen-first t
           fewer = omega (arith, fewer_named, ap length wrote.0, ap length wrote.1, length-append named S, seen_few term seen);
         }
 
-pub entries_all : (g : Graph) (es : List Entry) (i : ℕ) (start Seen-first text seen : List ℕ) → EntriesGo g es i start Seen-first text seen → length es ≤ i → (text ≡ start ++ spelled_all Seen-first (entries_at g (slots_of es))) × (seen ≡ seen_after_all Seen-first (entries_at g (slots_of es)))
-entries_all g es i start Seen-first text seen go le =
+pub entries_all : (g : Graph) (es : List Entry) (i : ℕ) (start seen_first text seen : List ℕ) → EntriesGo g es i start seen_first text seen → length es ≤ i → (text ≡ start ++ spelled_all seen_first (entries_at g (slots_of es))) × (seen ≡ seen_after_all seen_first (entries_at g (slots_of es)))
+entries_all g es i start seen_first text seen go le =
     let none : entries_at g (slots_of (drop i es)) ≡ [] = ap (λ xs. entries_at g (slots_of xs)) (drop_all i es le) in
     (sym (ap (λ z. text ++ spelled_all seen z) none ∙ append-nil text) ∙ go.bytes, sym (ap (seen_after_all seen) none) ∙ go.after)
 

@@ -66,8 +66,8 @@ EntriesWithin n [] = Unit {0}
 EntriesWithin n (e ∷ es) = (e.cell < n) × EntriesWithin n es
 
 -- Behind the text, the entries from place i on complete what is to be written.
-pub record EntriesGo (g : Graph) (es : List Entry) (i : ℕ) (start Seen-first text seen : List ℕ) : Type 0 where
-  pub bytes : text ++ spelled_all seen (entries_at g (slots_of (drop i es))) ≡ start ++ spelled_all Seen-first (entries_at g (slots_of es))
-  pub after : seen_after_all seen (entries_at g (slots_of (drop i es))) ≡ seen_after_all Seen-first (entries_at g (slots_of es))
+pub record EntriesGo (g : Graph) (es : List Entry) (i : ℕ) (start seen_first text seen : List ℕ) : Type 0 where
+  pub bytes : text ++ spelled_all seen (entries_at g (slots_of (drop i es))) ≡ start ++ spelled_all seen_first (entries_at g (slots_of es))
+  pub after : seen_after_all seen (entries_at g (slots_of (drop i es))) ≡ seen_after_all seen_first (entries_at g (slots_of es))
   pub within : EntriesWithin (length g) (drop i es)
   pub fewer : length seen ≤ length text

@@ -19,7 +19,7 @@ fn read_token(bytes: &[u8]) -> Result<(u32, &[u8]), Fault>
 
 // Lays out the term at the front of some bytes, whose variables have the cells from `base` on. The
 // answer is its cell and the bytes behind it.
-#[cycle(lay_parts_lay_term)]
+#[cycle(lays_term)]
 pub(crate) fn lay_term<'a>(
     bytes: &'a [u8],
     base: usize,
@@ -38,7 +38,7 @@ pub(crate) fn lay_term<'a>(
 }
 
 // Lays out so many terms that stand one behind another, and applies a cell to each in turn.
-#[cycle(lay_parts_lay_term)]
+#[cycle(lays_term)]
 fn lay_parts<'a>(
     cell: usize,
     count: usize,

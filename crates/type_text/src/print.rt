@@ -81,7 +81,7 @@ fn put_label(out: &mut [u8], at: usize, gap: &[u8], label: Label, mark: &[u8]) -
 }
 
 // Prints the type that stands at the front of some bytes; there is no answer where none does.
-#[cycle(print_function_print_places_print_record_print_type)]
+#[cycle(prints_type)]
 pub(crate) fn print_type<'a>(bytes: &'a [u8], out: &mut [u8], at: usize) -> Option<Printed<'a>>
     requires { at + 16 * length bytes.now ≤ length out.old }
     ensures text { (t : Term) (rest : List ℕ) → Spelt type t → bytes.now ≡ term_bytes t ++ rest → Shown (type_text t) rest at out.old out.new result }
@@ -104,7 +104,7 @@ pub(crate) fn print_type<'a>(bytes: &'a [u8], out: &mut [u8], at: usize) -> Opti
 }
 
 // Prints the two types of a function type.
-#[cycle(print_function_print_places_print_record_print_type)]
+#[cycle(prints_type)]
 fn print_function<'a>(bytes: &'a [u8], out: &mut [u8], at: usize) -> Option<Printed<'a>>
     requires { at + 4 + 16 * length bytes.now ≤ length out.old }
     ensures text { (a b : Term) (rest : List ℕ) → Spelt type a → Spelt type b → bytes.now ≡ term_bytes a ++ (term_bytes b ++ rest) → Shown (type_text (fun a b)) rest at out.old out.new result }
@@ -119,7 +119,7 @@ fn print_function<'a>(bytes: &'a [u8], out: &mut [u8], at: usize) -> Option<Prin
 }
 
 // Prints the places of a record.
-#[cycle(print_function_print_places_print_record_print_type)]
+#[cycle(prints_type)]
 fn print_record<'a>(bytes: &'a [u8], out: &mut [u8], at: usize) -> Option<Printed<'a>>
     requires { at + 2 + 16 * length bytes.now ≤ length out.old }
     ensures text { (ts : List Term) (rest : List ℕ) → AllPlaces ts → length ts ≡ 4 → bytes.now ≡ places_bytes ts ++ rest → Shown (type_text (rec ts)) rest at out.old out.new result }
@@ -135,7 +135,7 @@ fn print_record<'a>(bytes: &'a [u8], out: &mut [u8], at: usize) -> Option<Printe
 }
 
 // Prints the places of these labels, with a gap before the first that is shown.
-#[cycle(print_function_print_places_print_record_print_type)]
+#[cycle(prints_type)]
 fn print_places<'a>(
     bytes: &'a [u8],
     labels: &[Label],

@@ -1,6 +1,6 @@
 use Rattle.std.proofs.Common.{sym, arith}
 use Rattle.inference.proofs.LayingOut.{takes_fault, takes_more, no_token, no_term, lays_variable, lays_head, head_full, lays_none, no_part, part_full, lays_more}
-use Rattle.inference.proofs.lay.+lay_parts_lay_term.Goals as goal
+use Rattle.inference.proofs.lay.+lays_term.Goals as goal
 
 pub lay_parts-returns-then-count-eq0 : goal.lay_parts-returns-then-count-eq0
 lay_parts-returns-then-count-eq0 t c =

@@ -1,7 +1,7 @@
 use Rattle.std.proofs.Common.{◌≡◌, ◌+◌, ◌-◌, ◌≤◌, length, replicate}
 use Rattle.typing.specs.Heads.{place}
 use Rattle.forms.specs.Skips.{seen_of, skip_terms}
-use Rattle.forms.proofs.term.+read_place_read_type.Given as goal
+use Rattle.forms.proofs.term.+reads_term.Given as goal
 
 abbrev pub decreases-read_place : goal.decreases-read_place
 decreases-read_place l = length l.bytes.now

@@ -1,5 +1,5 @@
 use Rattle.std.proofs.Common.{◌+◌, ◌*◌, length}
-use Rattle.type_text.proofs.print.+print_function_print_places_print_record_print_type.Given as goal
+use Rattle.type_text.proofs.print.+prints_type.Given as goal
 
 abbrev pub decreases-print_function : goal.decreases-print_function
 decreases-print_function l = 2 * length l.bytes.now + 1

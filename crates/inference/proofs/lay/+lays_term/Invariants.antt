@@ -1,5 +1,5 @@
 use Rattle.std.proofs.Common.{◌+◌, ◌*◌, length}
-use Rattle.inference.proofs.lay.+lay_parts_lay_term.Given as goal
+use Rattle.inference.proofs.lay.+lays_term.Given as goal
 
 -- the bytes fall; a list of parts first asks for a term off the same bytes
 abbrev pub decreases-lay_parts : goal.decreases-lay_parts

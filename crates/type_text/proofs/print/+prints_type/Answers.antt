@@ -6,7 +6,7 @@ use Rattle.type_text.specs.TypeTexts.{type_text}
 use Rattle.type_text.proofs.Growing.{grew_as}
 use Rattle.type_text.proofs.Printing.{roomed_more, shown_as, grew_function, grew_record, type_by, next_place, no_place, no_labels, absent_field, variable_field, present_field}
 use Rattle.type_text.proofs.Tokens.{no_term}
-use Rattle.type_text.proofs.print.+print_function_print_places_print_record_print_type.Goals as goal
+use Rattle.type_text.proofs.print.+prints_type.Goals as goal
 
 pub print_function-returns : goal.print_function-returns
 print_function-returns t c =

@@ -4,7 +4,7 @@ use Rattle.typing.specs.Heads.{place}
 use Rattle.typing.specs.declared.head.Head.TheVariants.{Num, Fun, Rec, Absent, Present}
 use Rattle.forms.specs.Skips.{seen_of, skip_terms}
 use Rattle.forms.proofs.Skipping.{skip_no_token, skip_nil, skip_then, skip_stop, at_parts, at_leaf, at_wrong, at_variable, at_unmet, places_left, no_places_left, place_head, type_head, shorter_more, skipped_at}
-use Rattle.forms.proofs.term.+read_place_read_type.Goals as goal
+use Rattle.forms.proofs.term.+reads_term.Goals as goal
 
 pub read_place-returns-in_err-token : goal.read_place-returns-in_err-token
 read_place-returns-in_err-token t c =
