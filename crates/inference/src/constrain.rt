@@ -97,7 +97,7 @@ fn selection(label: Label, fresh: usize, fields: usize, draft: &mut Draft) -> Re
     ensures { DoesIf (constrain_at Sel (OfLabel label) fresh (fields ∷ []) (state_of draft.old)) (state_of draft.new) result }
 {
     let mut shape = places(fresh + 1);
-    shape[label.code() as usize] = draft.build(Head::Present, &[fresh])?;
+    shape[u32::from(label) as usize] = draft.build(Head::Present, &[fresh])?;
     let whole = draft.build(Head::Rec, &shape)?;
     draft.equate(fields, whole)?;
     Ok(fresh)
@@ -116,7 +116,7 @@ fn extension(
 {
     let mut shape = places(fresh);
     let whole = draft.build(Head::Rec, &shape)?;
-    shape[label.code() as usize] = draft.build(Head::Present, &[value])?;
+    shape[u32::from(label) as usize] = draft.build(Head::Present, &[value])?;
     let extended = draft.build(Head::Rec, &shape)?;
     draft.equate(fields, whole)?;
     Ok(extended)

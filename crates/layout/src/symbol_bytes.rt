@@ -16,7 +16,7 @@ pub fn read_symbol(bytes: &[u8]) -> Option<(Symbol, &[u8])>
     ensures { Reads (λ s. fits s ≡ true) symbol_bytes bytes.now result }
 {
     let (code, rest) = read_group(bytes)?;
-    let kind = Kind::from_code(code)?;
+    let kind = Kind::try_from(code).ok()?;
     let (argument, rest) = read_argument(kind.sort(), rest)?;
     Some((Symbol { kind, argument }, rest))
 }
@@ -51,7 +51,7 @@ fn read_name(bytes: &[u8]) -> Option<(Argument, &[u8])>
         return None;
     }
     let (letters, rest) = rest.split_at(len);
-    let name = Name::from_letters(letters)?;
+    let name = Name::try_from(letters).ok()?;
     Some((Argument::Name(name), rest))
 }
 
@@ -59,6 +59,6 @@ fn read_label(bytes: &[u8]) -> Option<(Argument, &[u8])>
     ensures { Reads (λ a. of_sort sort.Label a ≡ true) argument_bytes bytes.now result }
 {
     let (code, rest) = read_group(bytes)?;
-    let label = Label::from_code(code)?;
+    let label = Label::try_from(code).ok()?;
     Some((Argument::Label(label), rest))
 }

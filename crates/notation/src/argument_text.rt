@@ -36,21 +36,18 @@ pub fn parse_argument(sort: Sort, field: Option<&[u8]>) -> Result<Argument, Faul
             Sort::Nothing => Ok(Argument::Nothing),
             _ => Err(Fault::Misfit),
         },
-        Some(text) => match parse_text(sort, text) {
-            Some(argument) => Ok(argument),
-            None => Err(Fault::Misfit),
-        },
+        Some(text) => parse_text(sort, text),
     }
 }
 
-fn parse_text(sort: Sort, text: &[u8]) -> Option<Argument>
-    ensures { MatchOption result ((a : Argument) → of_sort sort a ≡ true → field_of a ≢ Some text.now) (λ a. (of_sort sort a ≡ true) × (field_of a ≡ Some text.now)) }
+fn parse_text(sort: Sort, text: &[u8]) -> Result<Argument, Fault>
+    ensures { Parsed sort (Some text.now) result }
 {
     match sort {
-        Sort::Nothing => None,
-        Sort::Number => Some(Argument::Number(read_decimal(text)?)),
-        Sort::Name => Some(Argument::Name(Name::from_letters(text)?)),
-        Sort::Label => Some(Argument::Label(Label::from_word(text)?)),
+        Sort::Nothing => Err(Fault::Misfit),
+        Sort::Number => Ok(Argument::Number(read_decimal(text).ok_or(Fault::Misfit)?)),
+        Sort::Name => Ok(Argument::Name(Name::try_from(text)?)),
+        Sort::Label => Ok(Argument::Label(Label::try_from(text)?)),
     }
 }
 

@@ -68,7 +68,7 @@ fn no_line(fault: Fault) -> Text
 {
     let mut text = Text::new();
     text.append(b"no ");
-    push_decimal(&mut text, fault.number() as u32);
+    push_decimal(&mut text, u32::from(u8::from(fault)));
     text.push(b'\n');
     text
 }

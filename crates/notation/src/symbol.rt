@@ -18,7 +18,7 @@ pub fn write_symbol(symbol: Symbol, out: &mut [u8]) -> Result<usize, Fault>
         return Err(Fault::Misfit);
     }
     let mut text = Text::new();
-    push_group(&mut text, symbol.kind.code());
+    push_group(&mut text, u32::from(symbol.kind));
     push_argument_bytes(&mut text, symbol.argument);
     text.copy_to(out)
 }
@@ -35,6 +35,6 @@ fn push_argument_bytes(text: &mut Text, argument: Argument)
             push_group(text, name.len() as u32);
             push_letters(text, name);
         }
-        Argument::Label(label) => push_group(text, label.code()),
+        Argument::Label(label) => push_group(text, u32::from(label)),
     }
 }

@@ -35,7 +35,7 @@ pub(crate) fn ask_line(line: &[u8], out: &mut [u8]) -> Result<usize, Fault>
         return Err(Fault::BadLine);
     };
     let (argument, strings) = split_field(rest);
-    let Some(source) = Source::from_word(reading) else {
+    let Ok(source) = Source::try_from(reading) else {
         return Err(Fault::BadLine);
     };
     if word.is_empty() || argument.is_empty() || !are_strings(strings) {

@@ -14,9 +14,7 @@ use syntax::kind::Kind;
 pub(crate) fn find_node(word: &[u8], argument: &[u8]) -> Result<Symbol, Fault>
     ensures { MatchResult result (Node word.now argument.now) (λ fault. (fault ≡ Misfit) × ((s : ASymbol) → Node word.now argument.now s → ⊥)) }
 {
-    let Some(kind) = Kind::from_word(word) else {
-        return Err(Fault::Misfit);
-    };
+    let kind = Kind::try_from(word)?;
     let argument = parse_argument(kind.sort(), field_text(argument))?;
     Ok(Symbol { kind, argument })
 }

@@ -4,7 +4,7 @@ use Rattle.std.specs.Char.{is_ascii_lowercase}
 use Rattle.std.specs.List.{AllByRecursion}
 use Rattle.std.proofs.ByRecursion.{All-append}
 use Rattle.std.proofs.lemmas.Bool.{and_parts, leb-true, cases_Bool}
-use Rattle.syntax.proofs.Letters.{named}
+use Rattle.syntax.proofs.Letters.{letters_step, named}
 use Rattle.syntax.specs.Names.{is_name, letters}
 use Rattle.syntax.specs.declared.name.Name.{Name}
 use Rattle.reading.specs.FreeNames.{Among}
@@ -16,7 +16,7 @@ Low b = b < 256
 
 letters_low : (bs : List ℕ) → AllByRecursion Low (letters bs)
 letters_low [] = tt
-letters_low (b ∷ bs) = by_test (letters_low bs) (cases_Bool (is_ascii_lowercase b))
+letters_low (b ∷ bs) = rw (letters_step b bs) (by_test (letters_low bs) (cases_Bool (is_ascii_lowercase b)))
   where
     by_test : AllByRecursion Low (letters bs) → (is_ascii_lowercase b ≡ true) ⊎ (is_ascii_lowercase b ≡ false) → AllByRecursion Low (cond (is_ascii_lowercase b) (b ∷ letters bs) [])
     by_test rest (inl e) =

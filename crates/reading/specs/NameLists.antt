@@ -5,7 +5,7 @@ use Rattle.std.specs.List.{flat_map, AllByRecursion}
 use Rattle.std.specs.Char.{is_ascii_lowercase}
 use Rattle.std.proofs.lemmas.List.{length-append}
 use Rattle.std.proofs.lemmas.Bool.{and_parts, and_from, lt-ltb, ltb-true, le-leb, leb-true, eq-eqb, eqb-true, cases_order, cases_Bool, false≢true, cond_both}
-use Rattle.syntax.proofs.Letters.{named}
+use Rattle.syntax.proofs.Letters.{letters_step, named}
 use Rattle.syntax.specs.Names.{is_name, letters}
 use Rattle.syntax.specs.declared.name.Name.{Name}
 use Rattle.reading.specs.NameStrings.{key, rising, listing, many, spelled, fours, lists, is_empty, allowed}
@@ -24,7 +24,7 @@ first_letter bs some b rest is = by_test (cases_Bool (is_ascii_lowercase b))
   where
     by_test : (is_ascii_lowercase b ≡ true) ⊎ (is_ascii_lowercase b ≡ false) → is_ascii_lowercase b ≡ true
     by_test (inl e) = e
-    by_test (inr e) = absurd (omega (arith, ap (λ z. length (letters z)) is ∙ ap (λ t. length (cond t (b ∷ letters rest) [])) e))
+    by_test (inr e) = absurd (omega (arith, ap (λ z. length (letters z)) is ∙ ap length (letters_step b rest) ∙ ap (λ t. length (cond t (b ∷ letters rest) [])) e))
 
 key_above : (bs : List ℕ) → 0 < length (letters bs) → 0 < key (record { 0 = bs })
 key_above [] some = absurd (omega arith)

@@ -22,7 +22,7 @@ fn outcome(start: u32, kind: Kind, argument: Argument, parts: &[&[u8]], room: us
     let before = out;
     match names.ask(kind, argument, parts, &mut out[0..room]) {
         Ok(_) => 0,
-        Err(fault) if names.meter() == start && out == before => fault.number(),
+        Err(fault) if names.meter() == start && out == before => u8::from(fault),
         Err(_) => 99,
     }
 }

@@ -14,7 +14,7 @@ fn gets(line: &[u8], text: &[u8], room: usize) -> bool {
 fn is_told(line: &[u8], text: &[u8], out: &mut [u8]) -> bool {
     match answer(line, out) {
         Ok(n) => n == text.len() && out.starts_with(text),
-        Err(fault) => fault.number() == 10 && text.is_empty(),
+        Err(fault) => u8::from(fault) == 10 && text.is_empty(),
     }
 }
 

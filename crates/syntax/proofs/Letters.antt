@@ -1,35 +1,25 @@
 -- The letters and the padding of a name. Assumes nothing.
-use Rattle.std.proofs.Common.{◌≡◌, ℕ, ◌+◌, ◌-◌, ◌<◌, ◌≤◌, true, false, ◌&&◌, eqb, ltb, List, [], ◌∷◌, ◌++◌, length, get_or, take, drop, replicate, sym, refl, ap, ◌∙◌, ap₂, suc-le-suc, zero-le, arith}
-use Rattle.std.proofs.lemmas.List.{drop_more, length-drop, take-append-drop, take_at, drop-replicate}
+use Rattle.std.proofs.Common.{◌≡◌, ℕ, ◌-◌, ◌<◌, ◌≤◌, true, false, ◌&&◌, eqb, ltb, List, [], ◌∷◌, ◌++◌, length, take, drop, replicate, sym, refl, ap, ◌∙◌, ap₂, suc-le-suc, zero-le, arith, cond}
+use Rattle.std.proofs.lemmas.List.{length-drop, take-append-drop, take_at, drop-replicate}
 use borrow.Rule.Slice.PartMut.{post_of}
 use native.Mathlib.Nat.{sub-zero}
-use Rattle.std.proofs.lemmas.Bool.{and_parts, eqb-true, ltb-true, eq-eqb, ne_eqb, lt-ltb, le-ltb, and_right, cond_both}
+use Rattle.std.proofs.lemmas.Bool.{and_parts, eqb-true, ltb-true, eq-eqb, lt-ltb, le-ltb, and_right, cond_both}
+use Rattle.std.proofs.lemmas.List.Sums.{take_while-cons}
 use Rattle.std.specs.Char.{is_ascii_lowercase}
 use Rattle.syntax.specs.Names.{blank, letters, is_name}
 
+pub letters_step : (b : ℕ) (bs : List ℕ) → letters (b ∷ bs) ≡ cond (is_ascii_lowercase b) (b ∷ letters bs) []
+letters_step b bs = take_while-cons is_ascii_lowercase b bs
+
 pub letters_within : (bs : List ℕ) → length (letters bs) ≤ length bs
 letters_within [] = omega arith
-letters_within (b ∷ bs) =
-    cond_both (is_ascii_lowercase b) (b ∷ letters bs) [] (λ x. length x ≤ length (b ∷ bs)) (λ _. suc-le-suc (letters_within bs)) (λ _. zero-le)
+letters_within (b ∷ bs) = rw (letters_step b bs)
+    (cond_both (is_ascii_lowercase b) (b ∷ letters bs) [] (λ x. length x ≤ length (b ∷ bs)) (λ _. suc-le-suc (letters_within bs)) (λ _. zero-le))
 
 pub letters_front : (bs : List ℕ) → letters bs ≡ take (length (letters bs)) bs
 letters_front [] = refl
-letters_front (b ∷ bs) =
-    cond_both (is_ascii_lowercase b) (b ∷ letters bs) [] (λ x. x ≡ take (length x) (b ∷ bs)) (λ _. ap (λ x. b ∷ x) (letters_front bs)) (λ _. refl)
-
--- a count of the letters up to an index goes on, or ends there
-module _ (bs : List ℕ) (i : ℕ) (within : i < length bs) where
-  pub count_goes : is_ascii_lowercase (get_or bs i 0) ≡ true → length (letters (drop i bs)) ≡ length (letters (drop (i + 1) bs)) + 1
-  count_goes letter = ap (λ x. length (letters x)) (drop_more bs i 0 within) ∙ rw letter (omega arith)
-
-  pub count_stops : is_ascii_lowercase (get_or bs i 0) ≡ false → length (letters (drop i bs)) ≡ 0
-  count_stops other = ap (λ x. length (letters x)) (drop_more bs i 0 within) ∙ rw other
-
-  pub blank_goes : get_or bs i 0 ≡ 0 → blank (drop i bs) ≡ blank (drop (i + 1) bs)
-  blank_goes none = ap blank (drop_more bs i 0 within) ∙ ap (λ x. x && blank (drop (i + 1) bs)) (eq-eqb (get_or bs i 0) 0 none)
-
-  pub blank_stops : (get_or bs i 0 ≡ 0 → ⊥) → blank (drop i bs) ≡ false
-  blank_stops some = ap blank (drop_more bs i 0 within) ∙ ap (λ x. x && blank (drop (i + 1) bs)) (ne_eqb (get_or bs i 0) 0 some)
+letters_front (b ∷ bs) = rw (letters_step b bs)
+    (cond_both (is_ascii_lowercase b) (b ∷ letters bs) [] (λ x. x ≡ take (length x) (b ∷ bs)) (λ _. ap (λ x. b ∷ x) (letters_front bs)) (λ _. refl))
 
 blank_is : (bs : List ℕ) → blank bs ≡ true → bs ≡ replicate (length bs) 0
 blank_is [] h = refl

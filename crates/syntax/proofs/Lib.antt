@@ -1,4 +1,5 @@
 pub mod Spelled
+pub mod Conversions
 pub mod Letters
 pub mod Codes
 pub mod Trees

@@ -1,5 +1,5 @@
--- The number of each refusal. Assumes nothing.
-use Rattle.std.specs.Prelude.{ℕ}
+-- The number of each refusal, and the text that shows it. Assumes nothing.
+use Rattle.std.specs.Prelude.{ℕ, List, ◌++◌, codes, decimal}
 use Rattle.syntax.specs.declared.fault.Fault.{Fault}
 use Rattle.syntax.specs.declared.fault.Fault.TheVariants.{BadLine, Misfit, NoNode, NoChild, Overlap, TooDeep, TooMany, Marked, MeterFull, ShortBuffer, BadLayout, Unlawful}
 
@@ -16,3 +16,7 @@ number_of MeterFull = 9
 number_of ShortBuffer = 10
 number_of BadLayout = 11
 number_of Unlawful = 12
+
+-- as in an answer to a line
+abbrev pub shown : Fault → List ℕ
+shown fault = codes "no " ++ decimal (number_of fault)

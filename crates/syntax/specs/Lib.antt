@@ -1,4 +1,5 @@
 pub mod Faults
+pub mod Conversions
 pub mod Labels
 pub mod Kinds
 pub mod Names

@@ -1,54 +1,50 @@
 // The refusals. Every call that turns something down says why by one of these.
-ghost use Rattle.std.specs.Prelude.{◌≡◌, ◌≤◌};
-ghost use Rattle.syntax.specs.Faults.{number_of};
+ghost use Rattle.std.specs.Prelude.{◌≡◌, ◌≤◌, Some};
+ghost use Rattle.syntax.specs.Faults.{number_of, shown};
 
+use std::fmt;
+
+// Each is shown by the number that stands at it.
 #[derive(Clone, Copy, Debug, PartialEq, Eq)]
 pub enum Fault {
     // A line that is empty, too long, or not of the form of any command.
-    BadLine,
+    BadLine = 1,
     // An unknown kind, or an argument that is missing, surplus, ill-formed or out of range.
-    Misfit,
+    Misfit = 2,
     // A path that leads to no node, or a sheet that is not open.
-    NoNode,
+    NoNode = 3,
     // A number that is no child number of the kind.
-    NoChild,
+    NoChild = 4,
     // Two paths of which one begins the other.
-    Overlap,
+    Overlap = 5,
     // A node would lie deeper than the deepest level.
-    TooDeep,
+    TooDeep = 6,
     // Too few free nodes.
-    TooMany,
+    TooMany = 7,
     // The reading asked for is out of date.
-    Marked,
+    Marked = 8,
     // The meter would pass its end.
-    MeterFull,
+    MeterFull = 9,
     // A buffer too short for what it is to hold.
-    ShortBuffer,
+    ShortBuffer = 10,
     // A file that breaks its layout.
-    BadLayout,
+    BadLayout = 11,
     // A child string that is missing, surplus or unlawful.
-    Unlawful,
+    Unlawful = 12,
 }
 
-impl Fault {
-    // The number under which the refusal is shown.
-    pub fn number(self) -> u8
-        ensures value { result ≡ number_of self }
-        ensures bound { result ≤ 12 }
-    {
-        match self {
-            Fault::BadLine => 1,
-            Fault::Misfit => 2,
-            Fault::NoNode => 3,
-            Fault::NoChild => 4,
-            Fault::Overlap => 5,
-            Fault::TooDeep => 6,
-            Fault::TooMany => 7,
-            Fault::Marked => 8,
-            Fault::MeterFull => 9,
-            Fault::ShortBuffer => 10,
-            Fault::BadLayout => 11,
-            Fault::Unlawful => 12,
-        }
+impl From<Fault> for u8 {
+    ghost from_gives = { λ fault n. (n ≡ number_of fault) × (n ≤ 12) };
+
+    fn from(fault: Fault) -> u8 {
+        fault as u8
+    }
+}
+
+impl fmt::Display for Fault {
+    ghost output = { λ fault. Some (shown fault) };
+
+    fn fmt<W: fmt::Write>(&self, f: &mut fmt::Formatter<W>) -> fmt::Result {
+        write!(f, "no {}", u8::from(*self))
     }
 }

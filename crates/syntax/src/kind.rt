@@ -1,26 +1,30 @@
 // The kinds of a rule's nodes: for each its code in a file, its word in a line, its number of
 // children, and the sort of argument that it takes.
-ghost use Rattle.std.specs.Prelude.{◌≡◌, MatchOption, ◌≢◌};
+ghost use Rattle.std.specs.Prelude.{◌≡◌};
+ghost use Rattle.syntax.specs.Conversions.{Finds};
 ghost use Rattle.syntax.specs.Kinds.{arity, code_of, sort_of, word_of};
 ghost use Rattle.syntax.specs.declared.kind.Kind.{Kind};
 
-#[derive(Clone, Copy)]
+use crate::fault::Fault;
+
+// The number beside each is its code in a file.
+#[derive(Clone, Copy, Debug, PartialEq, Eq)]
 pub enum Kind {
-    Hole,
-    Num,
-    Var,
-    Nil,
-    Lam,
-    Fix,
-    Sel,
-    App,
-    Add,
-    Ext,
-    Ifz,
+    Hole = 0,
+    Num = 1,
+    Var = 2,
+    Nil = 3,
+    Lam = 4,
+    Fix = 5,
+    Sel = 6,
+    App = 8,
+    Add = 9,
+    Ext = 10,
+    Ifz = 12,
 }
 
 // What a kind takes as its argument.
-#[derive(Clone, Copy)]
+#[derive(Clone, Copy, Debug, PartialEq, Eq)]
 pub enum Sort {
     Nothing,
     Number,
@@ -28,46 +32,63 @@ pub enum Sort {
     Label,
 }
 
-impl Kind {
-    // The number that stands for the kind in a file.
-    pub fn code(self) -> u32
-        ensures { result ≡ code_of self }
-    {
-        match self {
-            Kind::Hole => 0,
-            Kind::Num => 1,
-            Kind::Var => 2,
-            Kind::Nil => 3,
-            Kind::Lam => 4,
-            Kind::Fix => 5,
-            Kind::Sel => 6,
-            Kind::App => 8,
-            Kind::Add => 9,
-            Kind::Ext => 10,
-            Kind::Ifz => 12,
-        }
-    }
+impl From<Kind> for u32 {
+    ghost from_gives = { λ kind code. code ≡ code_of kind };
 
-    // The kind that has a code, if one has.
-    pub fn from_code(code: u32) -> Option<Kind>
-        ensures { MatchOption result ((k : Kind) → code_of k ≢ code) (λ k. code_of k ≡ code) }
-    {
+    fn from(kind: Kind) -> u32 {
+        kind as u32
+    }
+}
+
+// The kind that has a code, if one has.
+impl TryFrom<u32> for Kind {
+    type Error = Fault;
+
+    ghost try_from_gives = { λ code r. Finds (λ k. code_of k ≡ code) r };
+
+    fn try_from(code: u32) -> Result<Kind, Fault> {
         match code {
-            0 => Some(Kind::Hole),
-            1 => Some(Kind::Num),
-            2 => Some(Kind::Var),
-            3 => Some(Kind::Nil),
-            4 => Some(Kind::Lam),
-            5 => Some(Kind::Fix),
-            6 => Some(Kind::Sel),
-            8 => Some(Kind::App),
-            9 => Some(Kind::Add),
-            10 => Some(Kind::Ext),
-            12 => Some(Kind::Ifz),
-            7 | 11 | 13.. => None,
+            0 => Ok(Kind::Hole),
+            1 => Ok(Kind::Num),
+            2 => Ok(Kind::Var),
+            3 => Ok(Kind::Nil),
+            4 => Ok(Kind::Lam),
+            5 => Ok(Kind::Fix),
+            6 => Ok(Kind::Sel),
+            8 => Ok(Kind::App),
+            9 => Ok(Kind::Add),
+            10 => Ok(Kind::Ext),
+            12 => Ok(Kind::Ifz),
+            7 | 11 | 13.. => Err(Fault::Misfit),
         }
     }
+}
 
+// The kind that has a word, if one has.
+impl TryFrom<&[u8]> for Kind {
+    type Error = Fault;
+
+    ghost try_from_gives = { λ word r. Finds (λ k. word_of k ≡ word.now) r };
+
+    fn try_from(word: &[u8]) -> Result<Kind, Fault> {
+        match word {
+            b"hole" => Ok(Kind::Hole),
+            b"num" => Ok(Kind::Num),
+            b"var" => Ok(Kind::Var),
+            b"nil" => Ok(Kind::Nil),
+            b"lam" => Ok(Kind::Lam),
+            b"fix" => Ok(Kind::Fix),
+            b"sel" => Ok(Kind::Sel),
+            b"app" => Ok(Kind::App),
+            b"add" => Ok(Kind::Add),
+            b"ext" => Ok(Kind::Ext),
+            b"ifz" => Ok(Kind::Ifz),
+            _ => Err(Fault::Misfit),
+        }
+    }
+}
+
+impl Kind {
     // The word that stands for the kind in a line.
     pub fn word(self) -> &'static [u8]
         ensures { result.now ≡ word_of self }
@@ -87,31 +108,11 @@ impl Kind {
         }
     }
 
-    // The kind that has a word, if one has.
-    pub fn from_word(word: &[u8]) -> Option<Kind>
-        ensures { MatchOption result ((k : Kind) → word_of k ≢ word.now) (λ k. word_of k ≡ word.now) }
-    {
-        match word {
-            b"hole" => Some(Kind::Hole),
-            b"num" => Some(Kind::Num),
-            b"var" => Some(Kind::Var),
-            b"nil" => Some(Kind::Nil),
-            b"lam" => Some(Kind::Lam),
-            b"fix" => Some(Kind::Fix),
-            b"sel" => Some(Kind::Sel),
-            b"app" => Some(Kind::App),
-            b"add" => Some(Kind::Add),
-            b"ext" => Some(Kind::Ext),
-            b"ifz" => Some(Kind::Ifz),
-            _ => None,
-        }
-    }
-
     // How many children a node of the kind has.
     pub fn arity(self) -> usize
         ensures { result ≡ arity self }
     {
-        self.code() as usize / 4
+        u32::from(self) as usize / 4
     }
 
     // What a node of the kind takes as its argument.

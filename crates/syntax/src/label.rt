@@ -1,28 +1,63 @@
 // The labels of record fields.
-ghost use Rattle.std.specs.Prelude.{◌≡◌, MatchOption, ◌≢◌};
+ghost use Rattle.std.specs.Prelude.{◌≡◌};
+ghost use Rattle.syntax.specs.Conversions.{Finds};
 ghost use Rattle.syntax.specs.Labels.{label_code, label_word};
 ghost use Rattle.syntax.specs.declared.label.Label.{Label};
 
-#[derive(Clone, Copy)]
+use crate::fault::Fault;
+
+// The number beside each is its code in a file.
+#[derive(Clone, Copy, Debug, PartialEq, Eq)]
 pub enum Label {
-    Row,
-    Col,
-    Ink,
-    Lit,
+    Row = 0,
+    Col = 1,
+    Ink = 2,
+    Lit = 3,
+}
+
+impl From<Label> for u32 {
+    ghost from_gives = { λ label code. code ≡ label_code label };
+
+    fn from(label: Label) -> u32 {
+        label as u32
+    }
+}
+
+// The label that has a code, if one has.
+impl TryFrom<u32> for Label {
+    type Error = Fault;
+
+    ghost try_from_gives = { λ code r. Finds (λ l. label_code l ≡ code) r };
+
+    fn try_from(code: u32) -> Result<Label, Fault> {
+        match code {
+            0 => Ok(Label::Row),
+            1 => Ok(Label::Col),
+            2 => Ok(Label::Ink),
+            3 => Ok(Label::Lit),
+            4.. => Err(Fault::Misfit),
+        }
+    }
+}
+
+// The label that has a word, if one has.
+impl TryFrom<&[u8]> for Label {
+    type Error = Fault;
+
+    ghost try_from_gives = { λ word r. Finds (λ l. label_word l ≡ word.now) r };
+
+    fn try_from(word: &[u8]) -> Result<Label, Fault> {
+        match word {
+            b"row" => Ok(Label::Row),
+            b"col" => Ok(Label::Col),
+            b"ink" => Ok(Label::Ink),
+            b"lit" => Ok(Label::Lit),
+            _ => Err(Fault::Misfit),
+        }
+    }
 }
 
 impl Label {
-    pub fn code(self) -> u32
-        ensures { result ≡ label_code self }
-    {
-        match self {
-            Label::Row => 0,
-            Label::Col => 1,
-            Label::Ink => 2,
-            Label::Lit => 3,
-        }
-    }
-
     pub fn word(self) -> &'static [u8]
         ensures { result.now ≡ label_word self }
     {
@@ -31,30 +66,6 @@ impl Label {
             Label::Col => b"col",
             Label::Ink => b"ink",
             Label::Lit => b"lit",
-        }
-    }
-
-    pub fn from_code(code: u32) -> Option<Label>
-        ensures { MatchOption result ((l : Label) → label_code l ≢ code) (λ l. label_code l ≡ code) }
-    {
-        match code {
-            0 => Some(Label::Row),
-            1 => Some(Label::Col),
-            2 => Some(Label::Ink),
-            3 => Some(Label::Lit),
-            4.. => None,
-        }
-    }
-
-    pub fn from_word(word: &[u8]) -> Option<Label>
-        ensures { MatchOption result ((l : Label) → label_word l ≢ word.now) (λ l. label_word l ≡ word.now) }
-    {
-        match word {
-            b"row" => Some(Label::Row),
-            b"col" => Some(Label::Col),
-            b"ink" => Some(Label::Ink),
-            b"lit" => Some(Label::Lit),
-            _ => None,
         }
     }
 }

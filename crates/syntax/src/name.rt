@@ -1,13 +1,17 @@
 // Names of variables: one to four letters a to z, kept as four bytes padded with zeros.
-ghost use Rattle.std.specs.Prelude.{◌≡◌, ◌≤◌, true, length, MatchOption, ◌≢◌};
+ghost use Rattle.std.specs.Prelude.{◌≡◌, ◌≤◌, true, length};
+ghost use Rattle.syntax.specs.Conversions.{Finds};
 ghost use Rattle.syntax.specs.Names.{blank, is_name, letters};
 ghost use Rattle.syntax.specs.declared.name.Name.{Name};
+
+use crate::fault::Fault;
 
 // The most letters that a name has.
 const MAX_LETTERS: usize = 4;
 
-// Four bytes that may be a name. A caller can hold any four, so what takes one tests it.
-#[derive(Clone, Copy)]
+// Four bytes that may be a name. A caller can hold any four, so what takes one tests it. Names are
+// ordered by the first byte in which they differ.
+#[derive(Clone, Copy, Debug, Default, PartialEq, Eq, PartialOrd, Ord)]
 pub struct Name(pub [u8; 4]);
 
 impl Name {
@@ -16,14 +20,7 @@ impl Name {
         ensures value { result ≡ length (letters self.0) }
         ensures bound { result ≤ 4 }
     {
-        let mut n = 0;
-        for b in self.0 {
-            if !b.is_ascii_lowercase() {
-                return n;
-            }
-            n += 1;
-        }
-        n
+        self.0.iter().take_while(|b| b.is_ascii_lowercase()).count()
     }
 
     // Whether the four bytes are a name.
@@ -35,21 +32,25 @@ impl Name {
             n => is_blank(&self.0[n..]),
         }
     }
+}
 
-    // The name that has these letters, if some name has.
-    pub fn from_letters(text: &[u8]) -> Option<Name>
-        ensures { MatchOption result ((n : Name) → is_name n.0 ≡ true → letters n.0 ≢ text.now) (λ n. (is_name n.0 ≡ true) × (letters n.0 ≡ text.now)) }
-    {
+// The name that has these letters, if some name has.
+impl TryFrom<&[u8]> for Name {
+    type Error = Fault;
+
+    ghost try_from_gives = { λ text r. Finds (λ n. (is_name n.0 ≡ true) × (letters n.0 ≡ text.now)) r };
+
+    fn try_from(text: &[u8]) -> Result<Name, Fault> {
         if text.len() > MAX_LETTERS {
-            return None;
+            return Err(Fault::Misfit);
         }
         let mut bytes = [0; 4];
         bytes[0..text.len()].copy_from_slice(text);
         let name = Name(bytes);
         if name.is_valid() && name.len() == text.len() {
-            Some(name)
+            Ok(name)
         } else {
-            None
+            Err(Fault::Misfit)
         }
     }
 }
@@ -57,10 +58,5 @@ impl Name {
 fn is_blank(bytes: &[u8]) -> bool
     ensures { result ≡ blank bytes.now }
 {
-    for b in bytes {
-        if *b != 0 {
-            return false;
-        }
-    }
-    true
+    bytes.iter().all(|b| *b == 0)
 }

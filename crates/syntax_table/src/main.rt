@@ -66,10 +66,7 @@ fn print_hex(rt: &HostRuntime, all: &[u8]) -> anyhow::Result<()> {
 fn print_written(rt: &HostRuntime, r: Result<usize, Fault>, out: &[u8]) -> anyhow::Result<()> {
     match r {
         Ok(n) => print!(rt; "{n}:")?,
-        Err(fault) => {
-            let number = fault.number();
-            print!(rt; "no {number}:")?;
-        }
+        Err(fault) => print!(rt; "{fault}:")?,
     }
     print_hex(rt, out)
 }
@@ -112,10 +109,7 @@ fn figures(rt: &HostRuntime, capacity: &str, file: &str) -> anyhow::Result<()> {
             let height = found.height;
             println!(rt; "nodes {nodes} height {height}")?;
         }
-        Err(fault) => {
-            let number = fault.number();
-            println!(rt; "no {number}")?;
-        }
+        Err(fault) => println!(rt; "{fault}")?,
     }
     Ok(())
 }
@@ -130,7 +124,7 @@ fn lines(rt: &HostRuntime, room: &str, file: &str) -> anyhow::Result<()> {
             Ok(())
         }
         Err(fault) => {
-            let number = fault.number();
+            let number = u8::from(fault);
             println!(rt; "refused with {number}")?;
             Ok(())
         }
@@ -163,13 +157,13 @@ fn field(rt: &HostRuntime, sort: &str, text: Option<&str>) -> anyhow::Result<()>
 }
 
 fn kind(rt: &HostRuntime, word: &str) -> anyhow::Result<()> {
-    match Kind::from_word(word.as_bytes()) {
-        Some(kind) => {
-            let code = kind.code();
+    match Kind::try_from(word.as_bytes()) {
+        Ok(kind) => {
+            let code = u32::from(kind);
             let children = kind.arity();
             println!(rt; "code {code} children {children}")?;
         }
-        None => println!(rt; "none")?,
+        Err(_) => println!(rt; "none")?,
     }
     Ok(())
 }

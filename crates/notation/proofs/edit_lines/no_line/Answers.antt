@@ -3,7 +3,7 @@ use Rattle.notation.proofs.Decimals.{short}
 use Rattle.notation.proofs.edit_lines.no_line.Goals as goal
 
 pub push_decimal-requires : goal.push_decimal-requires
-push_decimal-requires c = omega (arith, short c.number.result (omega arith))
+push_decimal-requires c = omega (arith, short c.from-2.result (omega arith))
 
 pub push-requires : goal.push-requires
-push-requires c = omega (arith, short c.number.result (omega arith))
+push-requires c = omega (arith, short c.from-2.result (omega arith))
