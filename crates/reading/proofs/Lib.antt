@@ -1,3 +1,4 @@
+pub mod TooMany
 pub mod Refusals
 pub mod TwoQuestions
 pub mod NameKeys

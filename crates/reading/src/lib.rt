@@ -9,6 +9,7 @@ use syntax::argument::{Argument, Symbol};
 use syntax::fault::Fault;
 use syntax::kind::Kind;
 
+pub mod meter;
 mod name_set;
 pub mod names;
 pub mod twice;

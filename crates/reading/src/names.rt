@@ -3,14 +3,14 @@
 ghost use Rattle.std.specs.Prelude.{◌≡◌, ◌<◌, ◌≤◌, MatchResult};
 ghost use Rattle.syntax.specs.declared.fault.Fault.TheVariants.{Misfit};
 ghost use Rattle.reading.specs.FreeNames.{GivesFreeNames};
-ghost use Rattle.reading.specs.NameSets.{names_of};
+ghost use Rattle.reading.specs.NameSets.{collected_of};
 ghost use Rattle.reading.specs.NamesRule.{binds, collected, named, name_in, shows};
 ghost use Rattle.reading.specs.Readings.{meter_end, texts};
 ghost use Rattle.reading.specs.NamesLaws.{named_sound};
 
-use crate::name_set::NameSet;
-use crate::name_set::build::is_allowed;
-use crate::{MAX_METER, Reading};
+use crate::Reading;
+use crate::meter::Meter;
+use crate::name_set::{NameSet, TooMany, is_allowed, spell};
 use syntax::argument::{Argument, Symbol};
 use syntax::fault::Fault;
 use syntax::kind::Kind;
@@ -21,46 +21,37 @@ pub const NAMES_LIMIT: usize = 254;
 
 #[derive(Clone, Copy)]
 pub struct Names {
-    meter: u32,
-    ghost within: { meter ≤ 1000000000 },
+    meter: Meter,
 }
 
 impl Names {
     // A names reading whose meter starts at a number. What the reading says of a tree are the tree's
     // free names.
+    #[tactic(auto, using(crate::proofs::FreeLists::gives_free_names))]
     pub fn new(start: u32) -> Result<Names, Fault>
         ensures names { GivesFreeNames }
-        ensures made { MatchResult result (λ x. (x.meter ≡ start) × (start ≤ meter_end)) (λ fault. (fault ≡ Misfit) × (meter_end < start)) }
+        ensures made { MatchResult result (λ x. (x.meter.count ≡ start) × (start ≤ meter_end)) (λ fault. (fault ≡ Misfit) × (meter_end < start)) }
     {
-        Names::started(start)
-    }
-
-    // The same, with nothing said of its meaning.
-    fn started(start: u32) -> Result<Names, Fault>
-        ensures { MatchResult result (λ x. (x.meter ≡ start) × (start ≤ meter_end)) (λ fault. (fault ≡ Misfit) × (meter_end < start)) }
-    {
-        if start > MAX_METER {
-            return Err(Fault::Misfit);
-        }
-        Ok(Names { meter: start })
+        let meter = Meter::starting(start)?;
+        Ok(Names { meter })
     }
 }
 
 impl Reading for Names {
     ghost means = { λ _. named };
 
-    ghost metered = { λ x. x.meter };
+    ghost metered = { λ x. x.meter.count };
 
     ghost sound = { λ _. named_sound };
 
-    ghost within = { λ x. x.within };
+    ghost within = { λ x. x.meter.within };
 
     fn limit(&self) -> usize {
         NAMES_LIMIT
     }
 
     fn meter(&self) -> u32 {
-        self.meter
+        self.meter.count()
     }
 
     fn lawful(&self, text: &[u8]) -> bool {
@@ -76,25 +67,27 @@ impl Reading for Names {
     ) -> Result<usize, Fault> {
         let symbol = Symbol { kind, argument };
         self.admit(symbol, parts, out.len())?;
-        let n = collect(symbol, parts).write(out);
-        self.meter += 1;
+        let text = spell(&collect(symbol, parts));
+        self.meter.advance()?;
+        let n = text.len();
+        out[..n].copy_from_slice(text.as_slice());
         Ok(n)
     }
 }
 
 // The names of a node: its children's, without the one that it binds, and its own.
-fn collect(symbol: Symbol, parts: &[&[u8]]) -> NameSet
-    ensures { names_of result ≡ collected symbol (texts parts.now) }
+fn collect(symbol: Symbol, parts: &[&[u8]]) -> Result<NameSet, TooMany>
+    ensures { collected_of result ≡ collected symbol (texts parts.now) }
 {
     let bound = bound_name(symbol);
     let mut set = NameSet::new();
     for part in parts {
-        set.merge(bound, part);
+        set.merge(bound, part)?;
     }
     if let Some(name) = own_name(symbol) {
-        set.insert(name);
+        set.insert(name)?;
     }
-    set
+    Ok(set)
 }
 
 // The name that a node binds in its child.

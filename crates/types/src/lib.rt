@@ -10,15 +10,15 @@ ghost use Rattle.types.specs.GivenTypings.{GivesTypings};
 ghost use Rattle.inference.proofs.TypesLaws.{types_sound};
 
 use inference::node::{TYPES_LIMIT, is_allowed, write_node};
-use reading::{MAX_METER, Reading};
+use reading::Reading;
+use reading::meter::Meter;
 use syntax::argument::{Argument, Symbol};
 use syntax::fault::Fault;
 use syntax::kind::Kind;
 
 #[derive(Clone, Copy)]
 pub struct Types {
-    meter: u32,
-    ghost within: { meter ≤ 1000000000 },
+    meter: Meter,
 }
 
 impl Types {
@@ -26,37 +26,28 @@ impl Types {
     // typing.
     pub fn new(start: u32) -> Result<Types, Fault>
         ensures typings { GivesTypings }
-        ensures made { MatchResult result (λ x. (x.meter ≡ start) × (start ≤ meter_end)) (λ fault. (fault ≡ Misfit) × (meter_end < start)) }
+        ensures made { MatchResult result (λ x. (x.meter.count ≡ start) × (start ≤ meter_end)) (λ fault. (fault ≡ Misfit) × (meter_end < start)) }
     {
-        Types::started(start)
-    }
-
-    // The same, with nothing said of its meaning.
-    fn started(start: u32) -> Result<Types, Fault>
-        ensures { MatchResult result (λ x. (x.meter ≡ start) × (start ≤ meter_end)) (λ fault. (fault ≡ Misfit) × (meter_end < start)) }
-    {
-        if start > MAX_METER {
-            return Err(Fault::Misfit);
-        }
-        Ok(Types { meter: start })
+        let meter = Meter::starting(start)?;
+        Ok(Types { meter })
     }
 }
 
 impl Reading for Types {
     ghost means = { λ _. typed };
 
-    ghost metered = { λ x. x.meter };
+    ghost metered = { λ x. x.meter.count };
 
     ghost sound = { λ _. types_sound };
 
-    ghost within = { λ x. x.within };
+    ghost within = { λ x. x.meter.within };
 
     fn limit(&self) -> usize {
         TYPES_LIMIT
     }
 
     fn meter(&self) -> u32 {
-        self.meter
+        self.meter.count()
     }
 
     fn lawful(&self, text: &[u8]) -> bool {
@@ -72,11 +63,10 @@ impl Reading for Types {
     ) -> Result<usize, Fault> {
         let symbol = Symbol { kind, argument };
         symbol.fit()?;
-        if self.meter >= MAX_METER {
-            return Err(Fault::MeterFull);
-        }
+        let mut meter = self.meter;
+        meter.advance()?;
         let n = write_node(symbol, parts, out)?;
-        self.meter += 1;
+        self.meter = meter;
         Ok(n)
     }
 }

@@ -8,4 +8,4 @@ pub returns-in_err-n : goal.returns-in_err-n
 returns-in_err-n c =
     let p = err_from_is_err_and c.from_residual-in_err-n.result c.from_residual-in_err-n.ensures.1 in
     let refused = c.in_err-n.ensures in
-    rw (p.1, p.2) (record { why = same_refusal c.args.self.now.meter (record { kind = c.args.kind; argument = c.args.argument }) (texts c.args.parts.now) (length c.args.out.now) (omega arith) ∙ refused.0; kept = refl; left = refused.1 })
+    rw (p.1, p.2) (record { why = same_refusal c.args.self.now.meter.count (record { kind = c.args.kind; argument = c.args.argument }) (texts c.args.parts.now) (length c.args.out.now) (omega arith) ∙ refused.0; kept = refl; left = refused.1 })

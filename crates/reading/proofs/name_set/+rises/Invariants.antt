@@ -1,5 +1,5 @@
 use Rattle.std.proofs.Common.{length}
-use Rattle.reading.proofs.name_set.build.+rises.Given as goal
+use Rattle.reading.proofs.name_set.+rises.Given as goal
 
 abbrev pub decreases-rises : goal.decreases-rises
 decreases-rises l = length l.bytes.now

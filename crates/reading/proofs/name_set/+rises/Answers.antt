@@ -1,7 +1,7 @@
 use Rattle.std.proofs.Common.{◌<◌, sym, ap, ◌∙◌, arith}
 use Rattle.reading.specs.NameStrings.{fours, key, rising}
 use Rattle.reading.specs.Fours.{rises_more}
-use Rattle.reading.proofs.name_set.build.+rises.Goals as goal
+use Rattle.reading.proofs.name_set.+rises.Goals as goal
 
 pub returns-then-last-here : goal.returns-then-last-here
 returns-then-last-here t c =
