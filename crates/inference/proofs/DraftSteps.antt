@@ -9,7 +9,7 @@ use Rattle.typing.specs.Strings.{before}
 use Rattle.typing.specs.Terms.{Term}
 use Rattle.typing.specs.declared.cell.Cell.TheVariants.{Free as free, Atom as atom}
 use Rattle.typing.specs.declared.head.Head.{Head}
-use Rattle.inference.specs.NamedEntries.{insert}
+use Rattle.typing.specs.Constraints.{insert}
 use Rattle.inference.specs.Drafts.{State, with_graph, unknowns, build_at, equate_at, put_slot, add_entries, Roomy, Does, DoesIf, LaysAt, SlotsWithin}
 use Rattle.inference.specs.Layouts.{Answer, LaysTerm, shift}
 use Rattle.inference.specs.Slots.{Slot, slots_of}

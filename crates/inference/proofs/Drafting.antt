@@ -15,7 +15,6 @@ use Rattle.typing.proofs.Joining.{holds_append, holds_parts, form_above, shift_b
 use Rattle.typing.proofs.Laying.{laid_none, laid_more, lay_placed, bounded_more}
 use Rattle.inference.specs.Drafts.{State, with_graph, put_slot, add_entries, add_forms, SlotsWithin, Drafts, CellsAre, CellsWithin}
 use Rattle.inference.specs.Layouts.{shift}
-use Rattle.inference.specs.NamedEntries.{insert as insert_slot}
 use Rattle.inference.specs.Slots.{Slot}
 
 within_more : (n m : ℕ) → n ≤ m → (ps : Pairs) → Within n ps → Within m ps
@@ -46,7 +45,7 @@ abbrev pub placed : {A : Type 0} → Bool → Bool → Name × A → Name × A �
 placed a b e f es rest = cond a (f ∷ es, (f.1, e.1) ∷ []) (cond b (e ∷ f ∷ es, []) (f ∷ rest.0, rest.1))
 
 -- a slot takes its place as its entry does
-put_alike : (σ : ℕ → Term) (s : Slot) (e : Name × Term) → s.0 ≡ e.0 → σ s.1 ≡ fill σ e.1 → (ss : List Slot) (es : List (Name × Term)) → Slotted σ ss es → Alike σ (insert_slot s ss) (insert e es)
+put_alike : (σ : ℕ → Term) (s : Slot) (e : Name × Term) → s.0 ≡ e.0 → σ s.1 ≡ fill σ e.1 → (ss : List Slot) (es : List (Name × Term)) → Slotted σ ss es → Alike σ (insert s ss) (insert e es)
 put_alike σ s e name value [] [] slotted = record { slotted = (name, value, tt); equal = λ h. tt; holds = λ h. tt }
 put_alike σ s e name value [] (f ∷ es) slotted = absurd slotted
 put_alike σ s e name value (z ∷ ss) [] slotted = absurd slotted
@@ -54,10 +53,10 @@ put_alike σ s e name value (z ∷ ss) (f ∷ es) slotted =
     let is : same s.0 z.0 ≡ same e.0 f.0 = ap₂ same name slotted.0 in
     let earlier : before s.0 z.0 ≡ before e.0 f.0 = ap₂ before name slotted.0 in
     let there = insert e (f ∷ es) in
-    subst (λ a. Alike σ (placed a (before s.0 z.0) s z ss (insert_slot s ss)) there) (sym is)
-    (subst (λ b. Alike σ (placed (same e.0 f.0) b s z ss (insert_slot s ss)) there) (sym earlier) (by_tests (same e.0 f.0) (before e.0 f.0) (put_alike σ s e name value ss es slotted.2)))
+    subst (λ a. Alike σ (placed a (before s.0 z.0) s z ss (insert s ss)) there) (sym is)
+    (subst (λ b. Alike σ (placed (same e.0 f.0) b s z ss (insert s ss)) there) (sym earlier) (by_tests (same e.0 f.0) (before e.0 f.0) (put_alike σ s e name value ss es slotted.2)))
   where
-    by_tests : (a b : Bool) → Alike σ (insert_slot s ss) (insert e es) → Alike σ (placed a b s z ss (insert_slot s ss)) (placed a b e f es (insert e es))
+    by_tests : (a b : Bool) → Alike σ (insert s ss) (insert e es) → Alike σ (placed a b s z ss (insert s ss)) (placed a b e f es (insert e es))
     by_tests true b later =
         record { slotted = slotted; equal = λ h. (slotted.1 ∙ h.0 ∙ sym value, tt); holds = λ q. (sym slotted.1 ∙ q.0 ∙ value, tt) }
     by_tests false true later = record { slotted = (name, value, slotted); equal = λ h. tt; holds = λ q. tt }
@@ -72,11 +71,11 @@ equal_parts σ [] qs q = (tt, q)
 equal_parts σ (p ∷ ps) qs q = let r = equal_parts σ ps qs q.1 in ((q.0, r.0), r.1)
 
 -- what is put in stays inside
-put_inside : (n : ℕ) (s : Slot) → s.1 < n → (ss : List Slot) → SlotsWithin n ss → SlotsWithin n (insert_slot s ss).0 × Within n (insert_slot s ss).1
+put_inside : (n : ℕ) (s : Slot) → s.1 < n → (ss : List Slot) → SlotsWithin n ss → SlotsWithin n (insert s ss).0 × Within n (insert s ss).1
 put_inside n s lt [] w = ((lt, tt), tt)
 put_inside n s lt (z ∷ ss) w = by_tests (same s.0 z.0) (before s.0 z.0) (put_inside n s lt ss w.1)
   where
-    by_tests : (a b : Bool) → SlotsWithin n (insert_slot s ss).0 × Within n (insert_slot s ss).1 → SlotsWithin n (placed a b s z ss (insert_slot s ss)).0 × Within n (placed a b s z ss (insert_slot s ss)).1
+    by_tests : (a b : Bool) → SlotsWithin n (insert s ss).0 × Within n (insert s ss).1 → SlotsWithin n (placed a b s z ss (insert s ss)).0 × Within n (placed a b s z ss (insert s ss)).1
     by_tests true b later = (w, (w.0, lt, tt))
     by_tests false true later = ((lt, w), tt)
     by_tests false false later = ((w.0, later.0), later.1)
@@ -89,8 +88,8 @@ pub drafts_put : (es : List (Name × Term)) (qs : Equations) (S : State) (s : Sl
 drafts_put es qs S s e d lt name value =
     let n = length S.graph in
     let inside = put_inside n s lt S.slots d.inside in
-    let alike : (σ : ℕ → Term) → Solves σ S.graph → Alike σ (insert_slot s S.slots) (insert e es) = λ σ solves. put_alike σ s e name (value σ solves) S.slots es (d.slotted σ solves) in
-    record { tidy = d.tidy; within = within_append n (insert_slot s S.slots).1 S.pairs inside.1 d.within; inside = inside.0; slotted = λ σ solves. (alike σ solves).slotted; equal = λ σ solves h. let p = holds_parts σ (insert e es).1 qs h in equal_append σ (insert_slot s S.slots).1 S.pairs ((alike σ solves).equal p.0) (d.equal σ solves p.1); holds = λ σ solves q. let p = equal_parts σ (insert_slot s S.slots).1 S.pairs q in holds_append σ (insert e es).1 qs ((alike σ solves).holds p.0) (d.holds σ solves p.1) }
+    let alike : (σ : ℕ → Term) → Solves σ S.graph → Alike σ (insert s S.slots) (insert e es) = λ σ solves. put_alike σ s e name (value σ solves) S.slots es (d.slotted σ solves) in
+    record { tidy = d.tidy; within = within_append n (insert s S.slots).1 S.pairs inside.1 d.within; inside = inside.0; slotted = λ σ solves. (alike σ solves).slotted; equal = λ σ solves h. let p = holds_parts σ (insert e es).1 qs h in equal_append σ (insert s S.slots).1 S.pairs ((alike σ solves).equal p.0) (d.equal σ solves p.1); holds = λ σ solves q. let p = equal_parts σ (insert s S.slots).1 S.pairs q in holds_append σ (insert e es).1 qs ((alike σ solves).holds p.0) (d.holds σ solves p.1) }
 
 -- entries are added
 pub record Added (es : List (Name × Term)) (qs : Equations) (g : Graph) (S : State) : Type 0 where

@@ -23,7 +23,6 @@ use Rattle.typing.proofs.Records.{fill_applied}
 use Rattle.typing.proofs.Solving.{free_tidy, free_solves}
 use Rattle.inference.specs.Builds.{build}
 use Rattle.inference.specs.Drafts.{State, SlotsWithin, CellsAre, CellsWithin, build_at, equate_at, add_forms}
-use Rattle.inference.specs.NamedEntries.{type_of as cell_of, without as unlisted}
 use Rattle.inference.specs.Posed.{at, cells_from, children_at, drop_name, node_at}
 use Rattle.inference.specs.Slots.{Slot}
 use Rattle.inference.proofs.Building.{build_worth}
@@ -104,41 +103,41 @@ equated es qs g S a b t u A is-a is_b =
     record { drafts = record { tidy = d.tidy; within = (is-a.0, is_b.0, d.within); inside = d.inside; slotted = d.slotted; equal = λ σ solves h. (is-a.1 σ solves ∙ h.0 ∙ sym (is_b.1 σ solves), d.equal σ solves h.1); holds = λ σ solves q. (sym (is-a.1 σ solves) ∙ q.0 ∙ is_b.1 σ solves, d.holds σ solves q.1) }; laid = A.laid }
 
 -- a name is dropped from slots as from entries
-without_slotted : (σ : ℕ → Term) (n : Name) (ss : List Slot) (es : List (Name × Term)) → Slotted σ ss es → Slotted σ (unlisted n ss) (without n es)
+without_slotted : (σ : ℕ → Term) (n : Name) (ss : List Slot) (es : List (Name × Term)) → Slotted σ ss es → Slotted σ (without n ss) (without n es)
 without_slotted σ n [] [] slotted = tt
 without_slotted σ n [] (e ∷ es) slotted = absurd slotted
 without_slotted σ n (s ∷ ss) [] slotted = absurd slotted
 without_slotted σ n (s ∷ ss) (e ∷ es) slotted =
-    subst (λ b. Slotted σ (cond b (unlisted n ss) (s ∷ unlisted n ss)) (without n (e ∷ es))) (sym (ap (same n) slotted.0)) (by_test (same n e.0) (without_slotted σ n ss es slotted.2))
+    subst (λ b. Slotted σ (cond b (without n ss) (s ∷ without n ss)) (without n (e ∷ es))) (sym (ap (same n) slotted.0)) (by_test (same n e.0) (without_slotted σ n ss es slotted.2))
   where
-    by_test : (b : Bool) → Slotted σ (unlisted n ss) (without n es) → Slotted σ (cond b (unlisted n ss) (s ∷ unlisted n ss)) (cond b (without n es) (e ∷ without n es))
+    by_test : (b : Bool) → Slotted σ (without n ss) (without n es) → Slotted σ (cond b (without n ss) (s ∷ without n ss)) (cond b (without n es) (e ∷ without n es))
     by_test true later = later
     by_test false later = (slotted.0, slotted.1, later)
 
-without_inside : (m : ℕ) (n : Name) (ss : List Slot) → SlotsWithin m ss → SlotsWithin m (unlisted n ss)
+without_inside : (m : ℕ) (n : Name) (ss : List Slot) → SlotsWithin m ss → SlotsWithin m (without n ss)
 without_inside m n [] within = tt
 without_inside m n (s ∷ ss) within = by_test (same n s.0) (without_inside m n ss within.1)
   where
-    by_test : (b : Bool) → SlotsWithin m (unlisted n ss) → SlotsWithin m (cond b (unlisted n ss) (s ∷ unlisted n ss))
+    by_test : (b : Bool) → SlotsWithin m (without n ss) → SlotsWithin m (cond b (without n ss) (s ∷ without n ss))
     by_test true later = later
     by_test false later = (within.0, later)
 
-type_value : (σ : ℕ → Term) (n : Name) (ss : List Slot) (es : List (Name × Term)) → Slotted σ ss es → (c : ℕ) (t : Term) → σ c ≡ fill σ t → σ (cell_of n ss c) ≡ fill σ (type_of n es t)
+type_value : (σ : ℕ → Term) (n : Name) (ss : List Slot) (es : List (Name × Term)) → Slotted σ ss es → (c : ℕ) (t : Term) → σ c ≡ fill σ t → σ (type_of n ss c) ≡ fill σ (type_of n es t)
 type_value σ n [] [] slotted c t is = is
 type_value σ n [] (e ∷ es) slotted c t is = absurd slotted
 type_value σ n (s ∷ ss) [] slotted c t is = absurd slotted
 type_value σ n (s ∷ ss) (e ∷ es) slotted c t is =
-    subst (λ b. σ (cond b s.1 (cell_of n ss c)) ≡ fill σ (type_of n (e ∷ es) t)) (sym (ap (same n) slotted.0)) (by_test (same n e.0) (type_value σ n ss es slotted.2 c t is))
+    subst (λ b. σ (cond b s.1 (type_of n ss c)) ≡ fill σ (type_of n (e ∷ es) t)) (sym (ap (same n) slotted.0)) (by_test (same n e.0) (type_value σ n ss es slotted.2 c t is))
   where
-    by_test : (b : Bool) → σ (cell_of n ss c) ≡ fill σ (type_of n es t) → σ (cond b s.1 (cell_of n ss c)) ≡ fill σ (cond b e.1 (type_of n es t))
+    by_test : (b : Bool) → σ (type_of n ss c) ≡ fill σ (type_of n es t) → σ (cond b s.1 (type_of n ss c)) ≡ fill σ (cond b e.1 (type_of n es t))
     by_test true later = slotted.1
     by_test false later = later
 
-type_inside : (m : ℕ) (n : Name) (ss : List Slot) (c : ℕ) → SlotsWithin m ss → c < m → cell_of n ss c < m
+type_inside : (m : ℕ) (n : Name) (ss : List Slot) (c : ℕ) → SlotsWithin m ss → c < m → type_of n ss c < m
 type_inside m n [] c within lt = lt
 type_inside m n (s ∷ ss) c within lt = by_test (same n s.0) (type_inside m n ss c within.1 lt)
   where
-    by_test : (b : Bool) → cell_of n ss c < m → cond b s.1 (cell_of n ss c) < m
+    by_test : (b : Bool) → type_of n ss c < m → cond b s.1 (type_of n ss c) < m
     by_test true later = within.0
     by_test false later = later
 
@@ -147,7 +146,7 @@ dropped es qs g S n A =
     let d = A.drafts in
     record { drafts = record { tidy = d.tidy; within = d.within; inside = without_inside (length S.graph) n S.slots d.inside; slotted = λ σ solves. without_slotted σ n S.slots es (d.slotted σ solves); equal = d.equal; holds = d.holds }; laid = A.laid }
 
-type_is : (es : List (Name × Term)) (qs : Equations) (g : Graph) (S : State) (n : Name) (c : ℕ) (t : Term) → Added es qs g S → Is S.graph c t → Is S.graph (cell_of n S.slots c) (type_of n es t)
+type_is : (es : List (Name × Term)) (qs : Equations) (g : Graph) (S : State) (n : Name) (c : ℕ) (t : Term) → Added es qs g S → Is S.graph c t → Is S.graph (type_of n S.slots c) (type_of n es t)
 type_is es qs g S n c t A is =
     (type_inside (length S.graph) n S.slots c A.drafts.inside is.0, λ σ solves. type_value σ n S.slots es (A.drafts.slotted σ solves) c t (is.1 σ solves))
 
@@ -231,7 +230,7 @@ module _ (a : Argument) (Fs : List Form) where
   lam_drafted is =
       let n = name_of a in
       let domain = type_is J.entries J.equations start S n w (var w) added own in
-      let b = built (without n J.entries) J.equations start (drop_name n S) Fun (cell_of n S.slots w ∷ at ts 0 ∷ []) (type_of n J.entries (var w) ∷ type_at J 0 ∷ []) (dropped J.entries J.equations start S n added) (domain, (child 0 (omega (arith, is)), tt)) in
+      let b = built (without n J.entries) J.equations start (drop_name n S) Fun (type_of n S.slots w ∷ at ts 0 ∷ []) (type_of n J.entries (var w) ∷ type_at J 0 ∷ []) (dropped J.entries J.equations start S n added) (domain, (child 0 (omega (arith, is)), tt)) in
       record { few = omega arith; added = b.added; is = b.is }
 
   -- the type of the first child is that of a cell that was built

@@ -6,7 +6,7 @@ use Rattle.syntax.specs.declared.argument.Argument.{Argument}
 use Rattle.syntax.specs.declared.kind.Kind.{Kind}
 use Rattle.syntax.specs.declared.kind.Kind.TheVariants as kind
 use Rattle.typing.specs.Cells.{Graph}
-use Rattle.typing.specs.Constraints.{joined, label_of, name_of, width}
+use Rattle.typing.specs.Constraints.{insert, joined, label_of, name_of, type_of, width, without}
 use Rattle.typing.specs.Forms.{Name, Form, same, entry_variables, form_variables}
 use Rattle.typing.specs.Heads.{token_of}
 use Rattle.typing.specs.Judgements.{GoodTypings}
@@ -18,7 +18,6 @@ use Rattle.typing.specs.declared.cell.Cell.TheVariants.{Free as free, Atom as at
 use Rattle.typing.specs.declared.head.Head.TheVariants.{Num, Fun, Rec, Absent, Present}
 use Rattle.typing.proofs.StringReading.{name_long}
 use Rattle.typing.proofs.TermReading.{group_long, term_long}
-use Rattle.inference.specs.NamedEntries.{insert, type_of, without}
 use Rattle.inference.specs.Drafts.{State, add_entries, add_form, add_forms, build_at, put_slot, unknowns, with_graph, Roomy}
 use Rattle.inference.specs.Layouts.{shift}
 use Rattle.inference.specs.Posed.{at, cells_from, children_at, constrain_at, node_at}

@@ -6,7 +6,7 @@ use Rattle.std.proofs.lemmas.List.Edits.{length-insert}
 use Rattle.std.proofs.lemmas.Bool.{ne_eqb}
 use Rattle.typing.specs.Forms.{Name, same}
 use Rattle.typing.specs.Strings.{before}
-use Rattle.inference.specs.NamedEntries.{insert, type_of, without}
+use Rattle.typing.specs.Constraints.{insert, type_of, without}
 use Rattle.inference.specs.Slots.{Slot, slot_of, slots_of, most_entries, Goes}
 use Rattle.inference.specs.declared.entry.Entry.{Entry}
 

@@ -3,7 +3,7 @@
 use Rattle.std.specs.Prelude.{◌≡◌, ℕ, ◌+◌, ◌<◌, ◌≤◌, List, [], ◌∷◌, ◌++◌, length, replicate, Result, MatchResult}
 use Rattle.syntax.specs.declared.fault.Fault.{Fault}
 use Rattle.typing.specs.Cells.{Graph, Pairs}
-use Rattle.typing.specs.Constraints.{width}
+use Rattle.typing.specs.Constraints.{insert, width}
 use Rattle.typing.specs.Forms.{Name, Form}
 use Rattle.typing.specs.Heads.{Sort}
 use Rattle.typing.specs.Posing.{Slotted}
@@ -14,7 +14,6 @@ use Rattle.typing.specs.Strings.{term_bytes}
 use Rattle.typing.specs.Terms.{Term, fill}
 use Rattle.typing.specs.declared.cell.Cell.TheVariants.{Free as free}
 use Rattle.typing.specs.declared.head.Head.{Head}
-use Rattle.inference.specs.NamedEntries.{insert}
 use Rattle.inference.specs.Layouts.{Answer, Legible, shift}
 use Rattle.inference.specs.Builds.{build}
 use Rattle.inference.specs.PairStacks.{pairs_of}

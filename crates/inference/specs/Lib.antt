@@ -3,7 +3,6 @@ pub mod Worklists
 pub mod Walks
 pub mod Tables
 pub mod Layouts
-pub mod NamedEntries
 pub mod Slots
 pub mod Writings
 pub mod Drafts

@@ -3,10 +3,9 @@ use Rattle.std.specs.Prelude.{ℕ, zero, suc, ◌+◌, List, [], ◌∷◌, repl
 use Rattle.syntax.specs.declared.argument.Argument.{Argument}
 use Rattle.syntax.specs.declared.kind.Kind.{Kind}
 use Rattle.syntax.specs.declared.kind.Kind.TheVariants as kind
-use Rattle.typing.specs.Constraints.{joined, label_of, name_of}
+use Rattle.typing.specs.Constraints.{joined, label_of, name_of, type_of, without}
 use Rattle.typing.specs.Forms.{Name, Form}
 use Rattle.typing.specs.declared.head.Head.TheVariants.{Num, Fun, Rec, Absent, Present}
-use Rattle.inference.specs.NamedEntries.{type_of, without}
 use Rattle.inference.specs.Drafts.{State, add_forms, build_at, equate_at, put_slot, unknowns}
 
 -- the cells from w on

@@ -3,7 +3,7 @@ use Rattle.std.specs.Prelude.{◌≡◌, ℕ, ◌<◌, ◌≤◌, List, [], ◌�
 use Rattle.std.specs.List.{insert as inserted}
 use Rattle.syntax.specs.declared.fault.Fault.{Fault}
 use Rattle.typing.specs.Forms.{Name}
-use Rattle.inference.specs.NamedEntries.{insert}
+use Rattle.typing.specs.Constraints.{insert}
 use Rattle.inference.specs.declared.entries.Entries.{Entries}
 use Rattle.inference.specs.declared.entries.insert.Place.{Place}
 use Rattle.inference.specs.declared.entries.insert.Place.TheVariants.{Listed, At}

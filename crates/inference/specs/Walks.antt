@@ -5,7 +5,7 @@ use Rattle.typing.specs.declared.cell.Cell.{Cell}
 use Rattle.typing.specs.declared.cell.Cell.TheVariants.{Free as free, Link as link, Atom as atom, Apply as apply}
 use Rattle.typing.specs.Solutions.{Solves}
 use Rattle.typing.specs.Terms.{Term}
-use Rattle.typing.specs.Walks.{size}
+use Rattle.typing.specs.Sizes.{size}
 use Rattle.inference.specs.declared.cycle.Mark.{Mark}
 use Rattle.inference.specs.declared.cycle.Mark.TheVariants.{Unseen, Open, Done}
 

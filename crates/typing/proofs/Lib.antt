@@ -27,5 +27,3 @@ pub mod StringReading
 pub mod StringRule
 pub mod TermsRead
 pub mod StringsRead
-pub mod Running
-pub mod Walking

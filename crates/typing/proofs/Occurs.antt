@@ -7,7 +7,7 @@ use Rattle.std.proofs.lemmas.Bool.{cases_lt, cases_eq, and_from, and_parts, both
 use Rattle.typing.specs.Cells.{Cell, free, link, atom, apply, Graph, cell, find, below, grounded, every, acyclic, unroll, readback, term_of}
 use Rattle.typing.specs.Solutions.{Fits, Solves, Tidy, NotLink}
 use Rattle.typing.specs.Terms.{Term, var, head, ◌·◌, fill}
-use Rattle.typing.specs.Walks.{size}
+use Rattle.typing.specs.Sizes.{size}
 use Rattle.typing.proofs.Finding.{find_value, find_stays, find_link}
 
 pub size_some : (t : Term) → 1 ≤ size t

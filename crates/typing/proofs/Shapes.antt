@@ -8,7 +8,7 @@ use Rattle.typing.specs.Solutions.{Fits, Solves, Equal, Proper, Tidy, Within, No
 use Rattle.typing.specs.Terms.{Term, var, head, ◌·◌, Sorted}
 use Rattle.typing.proofs.Finding.{find_value, find_root, find_down, every_set}
 use Rattle.typing.proofs.Merging.{Kept, Sound, step_sound, ordered}
-use Rattle.typing.specs.Walks.{size}
+use Rattle.typing.specs.Sizes.{size}
 use Rattle.typing.proofs.Occurs.{size_some, every_at}
 
 infix 40 ◌⇒◌

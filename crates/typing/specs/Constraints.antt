@@ -22,15 +22,16 @@ label_of (argument.Number n) = 0
 label_of (argument.Name n) = 0
 label_of (argument.Label l) = label_code l
 
-abbrev pub Entries : Type 0
-Entries = List (Name × Term)
-
--- An entry put in its place; a name that is there already gives an equation.
-abbrev pub insert : Name × Term → Entries → Entries × Equations
+-- An entry is a name with something: with a term, or with the cell of one. One put in its place; a name
+-- that is there already gives a pair that has to be equal.
+abbrev pub insert : {A : Type 0} → Name × A → List (Name × A) → List (Name × A) × List (A × A)
 insert e [] = (e ∷ [], [])
 insert e (f ∷ es) =
     let rest = insert e es in
     cond (same e.0 f.0) (f ∷ es, (f.1, e.1) ∷ []) (cond (before e.0 f.0) (e ∷ f ∷ es, []) (f ∷ rest.0, rest.1))
+
+abbrev pub Entries : Type 0
+Entries = List (Name × Term)
 
 abbrev pub insert_all : Entries → Entries → Entries × Equations
 insert_all [] fs = (fs, [])
@@ -39,12 +40,12 @@ insert_all (e ∷ es) fs =
     let put = insert e rest.0 in
     (put.0, put.1 ++ rest.1)
 
-abbrev pub without : Name → Entries → Entries
+abbrev pub without : {A : Type 0} → Name → List (Name × A) → List (Name × A)
 without n [] = []
 without n (e ∷ es) = cond (same n e.0) (without n es) (e ∷ without n es)
 
--- the type of a name, or the one at hand if the name is not listed
-abbrev pub type_of : Name → Entries → Term → Term
+-- what a name is listed with, as its type, or what is at hand if the name is not listed
+abbrev pub type_of : {A : Type 0} → Name → List (Name × A) → A → A
 type_of n [] other = other
 type_of n (e ∷ es) other = cond (same n e.0) e.1 (type_of n es other)
 

@@ -3,7 +3,6 @@ pub mod Terms
 pub mod Forms
 pub mod Rules
 pub mod Cells
-pub mod Meetings
 pub mod Solutions
 pub mod Layings
 pub mod Solve
@@ -17,5 +16,4 @@ pub mod Judgements
 pub mod TreeTypings
 pub mod StringRules
 pub mod Worked
-pub mod Worklists
-pub mod Walks
+pub mod Sizes

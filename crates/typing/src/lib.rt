@@ -2,8 +2,5 @@
 #![tactic(auto)]
 
 pub mod cell;
-mod cycle;
 pub mod head;
-pub mod meeting;
 pub mod theorems;
-mod worklist;

@@ -1,7 +1,7 @@
 // How a draft is made.
 ghost use Rattle.std.specs.Prelude.{◌≡◌, ◌≤◌, []};
 ghost use Rattle.inference.specs.Drafts.{Does, LaysAt, build_at, equate_at, put_slot, state_of, unknowns};
-ghost use Rattle.inference.specs.NamedEntries.{type_of};
+ghost use Rattle.typing.specs.Constraints.{type_of};
 ghost use Rattle.inference.specs.Posed.{drop_name};
 ghost use Rattle.inference.specs.Slots.{slots_of};
 

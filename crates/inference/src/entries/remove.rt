@@ -1,6 +1,6 @@
 // How a name is taken off the list.
 ghost use Rattle.std.specs.Prelude.{◌≡◌};
-ghost use Rattle.inference.specs.NamedEntries.{type_of, without};
+ghost use Rattle.typing.specs.Constraints.{type_of, without};
 ghost use Rattle.inference.specs.Slots.{entries_of, slots_of};
 
 use crate::entries::Entries;

@@ -1,5 +1,5 @@
 use Rattle.std.proofs.Common.{sym, ap, ◌∙◌, arith}
-use Rattle.inference.specs.NamedEntries.{type_of}
+use Rattle.typing.specs.Constraints.{type_of}
 use Rattle.inference.specs.Slots.{slots_of}
 use Rattle.inference.proofs.Slotting.{type_here, type_past, type_none}
 use Rattle.inference.proofs.entries.Entries.cell_of.Goals as goal

@@ -1,5 +1,5 @@
 use Rattle.std.proofs.Common.{◌≡◌, drop}
-use Rattle.inference.specs.NamedEntries.{type_of}
+use Rattle.typing.specs.Constraints.{type_of}
 use Rattle.inference.specs.Slots.{slots_of}
 use Rattle.inference.proofs.entries.Entries.cell_of.Given as goal
 
