@@ -1,68 +1,66 @@
--- Bytes added to a text one piece after the other. Assumes nothing.
-use Rattle.std.proofs.Common.{◌≡◌, ℕ, suc, ◌+◌, ◌-◌, ◌<◌, ◌≤◌, cond, eqb, ◌⊎◌, List, [], ◌∷◌, ◌++◌, length, get_or, take, drop, Some, None, Option, sym, ap, ◌∙◌, ap₂, inl, inr, arith, length-append}
+-- Group numbers byte by byte, places in a list, and texts put into a buffer. Assumes nothing.
+use Rattle.std.proofs.Common.{◌≡◌, ℕ, zero, suc, ◌+◌, ◌-◌, ◌/◌, ◌%◌, ◌<◌, ◌≤◌, Bool, true, false, cond, eqb, ltb, List, [], ◌∷◌, ◌++◌, length, take, drop, Some, None, Option, refl, sym, ap, ◌∙◌, ap₂, arith, length-append}
 use borrow.Rule.Slice.PartMut.{put_mid}
-use Rattle.std.proofs.lemmas.List.{append_assoc, append-nil, at_drop_more, at_drop_all, drop_all, drop-drop, length-drop, length-take, get_or-take}
-use Rattle.std.proofs.lemmas.Bool.{eq-eqb, ne_eqb}
-use Rattle.layout.specs.Groups.{groups}
-use Rattle.layout.proofs.Groups.{groups_small}
+use Rattle.std.specs.List.{position_or_len}
+use Rattle.std.specs.Option.{unwrap_or}
+use Rattle.std.proofs.lemmas.List.{append_assoc, drop-drop}
+use Rattle.std.proofs.lemmas.Bool.{ltb-false}
+use Rattle.std.proofs.lemmas.List.Recursion.{is_position_or_len}
+use Rattle.layout.specs.Groups.{group, groups, bound}
+use Rattle.layout.proofs.Groups.{groups_small, groups_more, bound_more}
 use Rattle.typing.specs.Solve.{position}
-use Rattle.typing.specs.Strings.{longest}
-use Rattle.inference.specs.Writings.{Added, text_of}
-use Rattle.inference.specs.declared.form_text.FormText.{FormText}
 
--- one piece after another
-pub added_then : (xs ys before middle after : List ℕ) (r : Option (Unit {0})) → middle ≡ before ++ xs → Added ys middle after r → Added (xs ++ ys) before after r
-added_then xs ys before middle after None first full =
-    omega (arith, full, ap length first, length-append before xs, length-append xs ys)
-added_then xs ys before middle after (Some u) first is = is ∙ ap (λ z. z ++ ys) first ∙ append_assoc before xs ys
+-- a group number of which some bytes are there
+pub record GroupGoes (value : ℕ) (bytes : List ℕ) (rest : ℕ) : Type 0 where
+  pub more : ℕ
+  pub long : length bytes + more ≡ 2
+  pub below : rest < bound more
+  pub is : bytes ++ groups more rest ≡ group value
 
-pub full_then : (xs ys before : List ℕ) → longest < length before + length xs → longest < length before + length (xs ++ ys)
-full_then xs ys before full = omega (arith, full, length-append xs ys)
+pub group_first : (value : ℕ) → value < bound 2 → GroupGoes value [] value
+group_first value below = record { more = 2; long = refl; below = below; is = refl }
 
--- a loop over the bytes of one piece
-pub append_again : (more before after : List ℕ) (i : ℕ) → i < length more → after ≡ before ++ get_or more i 0 ∷ [] → after ++ drop (i + 1) more ≡ before ++ drop i more
-append_again more before after i lt is =
-    ap (λ z. z ++ drop (i + 1) more) is ∙ append_assoc before (get_or more i 0 ∷ []) (drop (i + 1) more) ∙ sym (at_drop_more (λ z. before ++ z) more i 0 lt)
+some_more : (more rest : ℕ) → 128 ≤ rest → rest < bound more → 0 < more
+some_more zero rest large below = absurd (omega arith)
+some_more (suc more) rest large below = omega arith
 
-pub append_full : (more start before : List ℕ) (i : ℕ) → i < length more → before ++ drop i more ≡ start ++ more → longest < length before + 1 → longest < length start + length more
-append_full more start before i lt is full =
-    omega (arith, lt, full, sym (length-append before (drop i more)) ∙ ap length is ∙ length-append start more, length-drop i more)
+pub group_short : (value : ℕ) (bytes : List ℕ) (rest : ℕ) → GroupGoes value bytes rest → length bytes ≤ 2
+group_short value bytes rest g = omega (arith, g.long)
 
-pub append_all : (more start after : List ℕ) (i : ℕ) → length more ≤ i → after ++ drop i more ≡ start ++ more → after ≡ start ++ more
-append_all more start after i le is = sym (append-nil after) ∙ ap (λ z. after ++ z) (sym (drop_all i more le)) ∙ is
+pub group_next : (value : ℕ) (bytes : List ℕ) (rest : ℕ) → 128 ≤ rest → GroupGoes value bytes rest → GroupGoes value (bytes ++ (128 + rest % 128) ∷ []) (rest / 128)
+group_next value bytes rest large g =
+    let some = some_more g.more rest large g.below in
+    record {
+      more = g.more - 1;
+      long = omega (arith, g.long, some, length-append bytes ((128 + rest % 128) ∷ []));
+      below = bound_more g.more rest some g.below;
+      is = append_assoc bytes ((128 + rest % 128) ∷ []) (groups (g.more - 1) (rest / 128)) ∙ ap (λ z. bytes ++ z) (sym (groups_more g.more rest some large)) ∙ g.is;
+    }
 
--- the first and only byte of a group number
-pub groups_last : (more n : ℕ) → (n < 128) ⊎ ((128 ≤ n) × (more ≡ 0)) → groups more n ≡ n ∷ []
-groups_last more n (inl small) = groups_small more n small
-groups_last more n (inr last) = ap (λ m. groups m n) last.1
+pub group_last : (value : ℕ) (bytes : List ℕ) (rest : ℕ) → rest < 128 → GroupGoes value bytes rest → bytes ++ rest ∷ [] ≡ group value
+group_last value bytes rest small g = ap (λ z. bytes ++ z) (sym (groups_small g.more rest small)) ∙ g.is
 
--- a search for k from the front, which has come to the place i of the first n
-module _ (xs : List ℕ) (n i k : ℕ) (long : n ≤ length xs) (lt : i < n) where
-  place_step : position k (drop i (take n xs)) ≡ cond (eqb k (get_or xs i 0)) 0 (suc (position k (drop (i + 1) (take n xs))))
-  place_step =
-      at_drop_more (position k) (take n xs) i 0 (omega (arith, lt, long, length-take n xs)) ∙ ap (λ x. cond (eqb k x) 0 (suc (position k (drop (i + 1) (take n xs))))) (get_or-take n xs i 0 lt)
+-- the place of a number in a list, which is behind it if it is not there
+pub position_is : (k : ℕ) (xs : List ℕ) → position k xs ≡ position_or_len (eqb k) xs
+position_is k xs = is_position_or_len (position k) (eqb k) refl (λ x xs. ap (λ n. cond (eqb k x) 0 n) (omega arith)) xs
 
-  pub place_found : get_or xs i 0 ≡ k → i + position k (drop i (take n xs)) ≡ i
-  place_found is = let here = place_step ∙ ap (λ b. cond b 0 (suc (position k (drop (i + 1) (take n xs))))) (eq-eqb k (get_or xs i 0) (sym is)) in omega (arith, here)
+pub position_within : (k : ℕ) (xs : List ℕ) → position k xs ≤ length xs
+position_within k [] = omega arith
+position_within k (x ∷ xs) = by_test (eqb k x) (position_within k xs)
+  where
+    by_test : (b : Bool) → position k xs ≤ length xs → cond b 0 (suc (position k xs)) ≤ suc (length xs)
+    by_test true le = omega arith
+    by_test false le = omega (arith, le)
 
-  pub place_later : (get_or xs i 0 ≡ k → ⊥) → i + position k (drop i (take n xs)) ≡ (i + 1) + position k (drop (i + 1) (take n xs))
-  place_later isnt = let here = place_step ∙ ap (λ b. cond b 0 (suc (position k (drop (i + 1) (take n xs))))) (ne_eqb k (get_or xs i 0) (λ e. isnt (sym e))) in omega (arith, here)
-
-pub place_none : (xs : List ℕ) (n i k : ℕ) → n ≤ i → i + position k (drop i (take n xs)) ≡ i
-place_none xs n i k le = let here = at_drop_all (position k) (take n xs) i (omega (arith, le, length-take n xs)) in omega (arith, here)
-
-pub text_short : (t : FormText) → length (text_of t) ≤ longest
-text_short t = omega (arith, length-take t.len t.bytes, t.within)
+pub place_is : (n l : ℕ) (r : Option ℕ) → r ≡ cond (ltb n l) (Some n) None → n ≤ l → unwrap_or r l ≡ n
+place_is n l r is le = ap (λ o. unwrap_or o l) is ∙ by_test (ltb n l) refl
+  where
+    by_test : (b : Bool) → ltb n l ≡ b → unwrap_or (cond b (Some n) None) l ≡ n
+    by_test true lt = refl
+    by_test false past = omega (arith, le, ltb-false n l past)
 
 -- a buffer with a text written into it
 pub put_at_lem : (out ys text : List ℕ) (at n : ℕ) → ys ≡ text → length text ≡ n → put_mid at ((at + n) - at) out ys ≡ take at out ++ (text ++ drop (at + length text) out)
 put_at_lem out ys text at n is long =
     let behind : at + ((at + n) - at) ≡ at + length text = omega (arith, long) in
     ap₂ (λ (y z : List ℕ). take at out ++ (y ++ z)) is (drop-drop ((at + n) - at) at out ∙ ap (λ m. drop m out) behind)
-
--- what is copied of a text
-pub copied_text : (t : FormText) → take (t.len - 0) t.bytes ≡ text_of t
-copied_text t = let same : t.len - 0 ≡ t.len = omega arith in ap (λ n. take n t.bytes) same
-
-pub text_long : (t : FormText) → length t.bytes ≡ longest → length (text_of t) ≡ t.len
-text_long t full = omega (arith, length-take t.len t.bytes, t.within, full)

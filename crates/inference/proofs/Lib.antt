@@ -7,7 +7,7 @@ pub mod Adding
 pub mod Writing
 pub mod WritingEntries
 pub mod Drafting
-pub mod Stacking
+pub mod Uniting
 pub mod Unifying
 pub mod StringWriting
 pub mod TypingText

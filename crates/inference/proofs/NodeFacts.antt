@@ -20,11 +20,10 @@ use Rattle.typing.proofs.Solving.{free_tidy}
 use Rattle.inference.specs.Drafts.{State, unknowns, Roomy}
 use Rattle.inference.specs.Joins.{Begins, all_at, forms_of}
 use Rattle.inference.specs.Nodes.{Ready, Lawful}
-use Rattle.inference.specs.Outcomes.{Concludes, clash_of, overlong_of}
+use Rattle.inference.specs.Outcomes.{Outcome, Concludes, clash_of, overlong_of}
 use Rattle.inference.specs.Posed.{at, constrain_at, node_at, spare}
 use Rattle.inference.specs.Tallies.{read_all, Totals}
 use Rattle.inference.specs.TypingStrings.{string_of}
-use Rattle.inference.specs.declared.outcome.Outcome.{Outcome}
 use Rattle.inference.specs.declared.tally.Tally.{Tally}
 use Rattle.inference.proofs.Drafting.{forms_joined}
 use Rattle.inference.proofs.NodePosed.{cells_long, node_poses, node_inside}

@@ -1,7 +1,8 @@
 -- Entries over cells: how one takes its place. Assumes nothing.
-use Rattle.std.proofs.Common.{◌≡◌, ℕ, zero, suc, ◌+◌, ◌<◌, ◌≤◌, Bool, true, false, cond, eqb, List, [], ◌∷◌, ◌++◌, length, get_or, take, drop, set, sym, refl, ap, ◌∙◌, subst, ap₂, arith}
-use Rattle.std.specs.List.{insert as inserted}
-use Rattle.std.proofs.lemmas.List.{append_assoc, append-nil, drop_all, drop_more, length-set, drop-set-lt, take_more, take_more_set, nil_from_length}
+use Rattle.std.proofs.Common.{◌≡◌, ℕ, zero, suc, ◌+◌, ◌<◌, ◌≤◌, Bool, true, false, cond, eqb, List, [], ◌∷◌, ◌++◌, length, get_or, take, drop, Some, None, Option, not, sym, refl, ap, ◌∙◌, subst, ap₂, arith}
+use Rattle.std.specs.List.{find, insert as inserted}
+use Rattle.std.specs.List.Retain.{RetainsInTurn}
+use Rattle.std.proofs.lemmas.List.{append_assoc, drop_all, drop_more, take_more, nil_from_length}
 use Rattle.std.proofs.lemmas.List.Edits.{length-insert}
 use Rattle.std.proofs.lemmas.Bool.{ne_eqb}
 use Rattle.typing.specs.Forms.{Name, same}
@@ -17,19 +18,6 @@ same_none a b none = empty b ∙ ap (λ n. same n b) (sym (nil_from_length a non
     empty : (m : List ℕ) → eqb (length m) 0 ≡ same [] m
     empty [] = refl
     empty (y ∷ m) = ne_eqb (length (y ∷ m)) 0 (λ e. omega (arith, e))
-
--- an element is carried on
-pub carried_on : {X : Type 0} (xs : List X) (i : ℕ) (d y : X) → i < length xs → take (i + 1) (set xs i y) ++ get_or xs i d ∷ drop (i + 1) (set xs i y) ≡ take i xs ++ y ∷ drop i xs
-carried_on xs i d y lt =
-    ap₂ (λ front back. front ++ get_or xs i d ∷ back) (take_more_set xs i y lt) (drop-set-lt (i + 1) xs i y (omega arith))
-    ∙ append_assoc (take i xs) (y ∷ []) (get_or xs i d ∷ drop (i + 1) xs)
-    ∙ ap (λ rest. take i xs ++ y ∷ rest) (sym (drop_more xs i d lt))
-
-pub carried_out : {X : Type 0} (xs : List X) (i : ℕ) (y : X) → length xs ≤ i → take i xs ++ y ∷ drop i xs ≡ xs ++ y ∷ []
-carried_out [] zero y past = refl
-carried_out [] (suc i) y past = refl
-carried_out (x ∷ xs) zero y past = absurd (omega arith)
-carried_out (x ∷ xs) (suc i) y past = ap (λ ys. x ∷ ys) (carried_out xs i y (omega arith))
 
 -- slots
 pub length_slots : (es : List Entry) → length (slots_of es) ≡ length es
@@ -90,128 +78,58 @@ pair_is : {A B : Type 0} (p : A × B) (a : A) (b : B) → p.0 ≡ a → p.1 ≡ 
 pair_is p a b ea eb = ap₂ (λ x y. (x, y)) ea eb
 
 -- the name is listed
-pub listed_here : (s : Slot) (es : List Entry) (i : ℕ) (d : Entry) → i < length es → Goes s (slots_of es) i → same s.0 (get_or es i d).name.0 ≡ true → insert s (slots_of es) ≡ (slots_of es, ((get_or es i d).cell, s.1) ∷ [])
-listed_here s es i d lt goes is =
+pub listed_here : (e : Entry) (es : List Entry) (i : ℕ) (d : Entry) → i < length es → Goes (slot_of e) (slots_of es) i → same e.name.0 (get_or es i d).name.0 ≡ true → insert (slot_of e) (slots_of es) ≡ (slots_of es, ((get_or es i d).cell, e.cell) ∷ [])
+listed_here e es i d lt goes is =
+    let s = slot_of e in
     let ss = slots_of es in
     let f = slot_of (get_or es i d) in
     let here : insert s (drop i ss) ≡ (f ∷ drop (i + 1) ss, (f.1, s.1) ∷ []) = ap (insert s) (at_slot es i d lt) ∙ insert_same s f (drop (i + 1) ss) is in
     pair_is (insert s ss) ss (((get_or es i d).cell, s.1) ∷ []) (goes.0 ∙ ap (λ x. take i ss ++ x.0) here ∙ ap (λ rest. take i ss ++ rest) (sym (at_slot es i d lt)) ∙ together ss i) (goes.1 ∙ ap (λ x. x.1) here)
 
--- the slot here comes later
-pub place_here : (s : Slot) (es : List Entry) (i : ℕ) (d : Entry) → i < length es → Goes s (slots_of es) i → same s.0 (get_or es i d).name.0 ≡ false → before s.0 (get_or es i d).name.0 ≡ true → (i ≤ length (slots_of es)) × (insert s (slots_of es) ≡ (inserted (slots_of es) i s, []))
-place_here s es i d lt goes other earlier =
-    let ss = slots_of es in
-    let f = slot_of (get_or es i d) in
-    let here : insert s (drop i ss) ≡ (s ∷ drop i ss, []) = ap (insert s) (at_slot es i d lt) ∙ insert_before s f (drop (i + 1) ss) other earlier ∙ ap (λ rest. (s ∷ rest, [])) (sym (at_slot es i d lt)) in
-    (omega (arith, length_slots es), pair_is (insert s ss) (inserted ss i s) [] (goes.0 ∙ ap (λ x. take i ss ++ x.0) here) (goes.1 ∙ ap (λ x. x.1) here))
-
--- there is no later one
-pub place_end : (s : Slot) (es : List Entry) (i : ℕ) → length es ≤ i → i ≤ length es → Goes s (slots_of es) i → (length es ≤ length (slots_of es)) × (insert s (slots_of es) ≡ (inserted (slots_of es) (length es) s, []))
-place_end s es i past within goes =
-    let ss = slots_of es in
-    let n = length es in
-    let is : i ≡ n = omega arith in
-    let none : drop n ss ≡ [] = gone ss n (omega (arith, length_slots es)) in
-    let at = subst (Goes s ss) is goes in
-    let here : insert s (drop n ss) ≡ (s ∷ drop n ss, []) = ap (insert s) none ∙ ap (λ rest. (s ∷ rest, [])) (sym none) in
-    (omega (arith, length_slots es), pair_is (insert s ss) (inserted ss n s) [] (at.0 ∙ ap (λ x. take n ss ++ x.0) here) (at.1 ∙ ap (λ x. x.1) here))
-  where
-    gone : (ss : List Slot) (i : ℕ) → length ss ≤ i → drop i ss ≡ []
-    gone [] zero past' = refl
-    gone [] (suc i) past' = refl
-    gone (x ∷ ss) zero past' = absurd (omega arith)
-    gone (x ∷ ss) (suc i) past' = gone ss i (omega arith)
-
 -- what is put at a place of the entries is put at that place of the slots
-pub inserted_slots : (es : List Entry) (at : ℕ) (e : Entry) → slots_of (inserted es at e) ≡ inserted (slots_of es) at (slot_of e)
+inserted_slots : (es : List Entry) (at : ℕ) (e : Entry) → slots_of (inserted es at e) ≡ inserted (slots_of es) at (slot_of e)
 inserted_slots es at e =
     slots_append (take at es) (e ∷ drop at es) ∙ ap₂ (λ front back. front ++ slot_of e ∷ back) (sym (take_slots at es)) (sym (drop_slots at es))
 
-take_take : {X : Type 0} (xs : List X) (n : ℕ) → take n (take (suc n) xs) ≡ take n xs
-take_take xs zero = refl
-take_take [] (suc n) = refl
-take_take (x ∷ xs) (suc n) = ap (λ ys. x ∷ ys) (take_take xs n)
+-- the entry here comes later, or there is none
+pub place_here : (e : Entry) (es : List Entry) (i : ℕ) → Goes (slot_of e) (slots_of es) i → insert (slot_of e) (drop i (slots_of es)) ≡ (slot_of e ∷ drop i (slots_of es), []) → insert (slot_of e) (slots_of es) ≡ (slots_of (inserted es i e), [])
+place_here e es i goes here =
+    let ss = slots_of es in
+    pair_is (insert (slot_of e) ss) (slots_of (inserted es i e)) [] (goes.0 ∙ ap (λ x. take i ss ++ x.0) here ∙ sym (inserted_slots es i e)) (goes.1 ∙ ap (λ x. x.1) here)
 
--- one more element has room for one that is put in
-room_for_one : {X : Type 0} (xs : List X) (n at : ℕ) (y : X) → at ≤ n → n < length xs → take (suc n) (inserted (take (suc n) xs) at y) ≡ inserted (take n xs) at y
-room_for_one [] n at y le lt = absurd (omega arith)
-room_for_one (x ∷ xs) zero zero y le lt = refl
-room_for_one (x ∷ xs) zero (suc at) y le lt = absurd (omega arith)
-room_for_one (x ∷ xs) (suc n) zero y le lt = ap (λ zs. y ∷ zs) (take_take (x ∷ xs) (suc n))
-room_for_one (x ∷ xs) (suc n) (suc at) y le lt = ap (λ zs. x ∷ zs) (room_for_one xs n at y (omega arith) (omega arith))
+pub comes_later : (e : Entry) (es : List Entry) (i : ℕ) (d : Entry) → i < length es → same e.name.0 (get_or es i d).name.0 ≡ false → before e.name.0 (get_or es i d).name.0 ≡ true → insert (slot_of e) (drop i (slots_of es)) ≡ (slot_of e ∷ drop i (slots_of es), [])
+comes_later e es i d lt other earlier =
+    ap (insert (slot_of e)) (at_slot es i d lt) ∙ insert_before (slot_of e) (slot_of (get_or es i d)) (drop (i + 1) (slots_of es)) other earlier ∙ ap (λ rest. (slot_of e ∷ rest, [])) (sym (at_slot es i d lt))
 
-take_front : {X : Type 0} (xs ys : List X) (n : ℕ) → length xs ≡ n → take n (xs ++ ys) ≡ xs
-take_front [] ys zero is = refl
-take_front [] ys (suc n) is = absurd (omega (arith, is))
-take_front (x ∷ xs) ys zero is = absurd (omega (arith, is))
-take_front (x ∷ xs) ys (suc n) is = ap (λ zs. x ∷ zs) (take_front xs ys n (omega (arith, is)))
+pub comes_none : (e : Entry) (es : List Entry) → insert (slot_of e) (drop (length es) (slots_of es)) ≡ (slot_of e ∷ drop (length es) (slots_of es), [])
+comes_none e es = let none : drop (length es) (slots_of es) ≡ [] = drop_slots (length es) es ∙ ap slots_of (drop_all (length es) es (omega arith)) in ap (insert (slot_of e)) none ∙ ap (λ rest. (slot_of e ∷ rest, [])) (sym none)
 
-pub put_in : {X : Type 0} (xs last post : List X) (n k at : ℕ) (y r : X) → k ≡ n + 1 → last ++ r ∷ [] ≡ inserted (take k xs) at y → length last ≡ k → at ≤ n → n < length xs → take (n + 1) (last ++ post) ≡ inserted (take n xs) at y
-put_in xs last post n k at y r is laid long le lt =
-    let one : n + 1 ≡ suc n = omega arith in
-    take_front last post (n + 1) (long ∙ is)
-    ∙ sym (take_front last (r ∷ []) (suc n) (long ∙ is ∙ one))
-    ∙ ap (take (suc n)) (laid ∙ ap (λ j. inserted (take j xs) at y) (is ∙ one))
-    ∙ room_for_one xs n at y le lt
-
-pub puts_slot : (e : Entry) (at : ℕ) (es es' : List Entry) → insert (slot_of e) (slots_of es) ≡ (inserted (slots_of es) at (slot_of e), []) → es' ≡ inserted es at e → (slots_of es' ≡ (insert (slot_of e) (slots_of es)).0) × ([] ≡ (insert (slot_of e) (slots_of es)).1)
-puts_slot e at es es' finds puts =
-    (ap slots_of puts ∙ inserted_slots es at e ∙ sym (ap (λ p. p.0) finds), sym (ap (λ p. p.1) finds))
-
-pub no_place : (s : Slot) (es : List Entry) (at : ℕ) → at ≤ length (slots_of es) → insert s (slots_of es) ≡ (inserted (slots_of es) at s, []) → most_entries ≤ length es → most_entries < length (insert s (slots_of es)).0
-no_place s es at le finds full =
-    omega (arith, ap (λ p. length p.0) finds, length-insert (slots_of es) at s le, length_slots es, full)
+-- there is no place for one more
+pub no_place : (e : Entry) (es : List Entry) (i : ℕ) → i ≤ length es → insert (slot_of e) (slots_of es) ≡ (slots_of (inserted es i e), []) → length es ≡ most_entries → most_entries < length (insert (slot_of e) (slots_of es)).0
+no_place e es i le is full =
+    omega (arith, ap (λ p. length p.0) is, length_slots (inserted es i e), length-insert es i e le, full)
 
 -- looking a name up
-pub type_here : (n : Name) (es : List Entry) (i other : ℕ) (d : Entry) → i < length es → same n (get_or es i d).name.0 ≡ true → type_of n (slots_of (drop i es)) other ≡ (get_or es i d).cell
-type_here n es i other d lt is =
-    ap (λ xs. type_of n (slots_of xs) other) (drop_more es i d lt) ∙ ap (λ b. cond b (get_or es i d).cell (type_of n (slots_of (drop (i + 1) es)) other)) is
+abbrev pub cell_or : Option Entry → ℕ → ℕ
+cell_or None other = other
+cell_or (Some e) other = e.cell
 
-pub type_past : (n : Name) (es : List Entry) (i other : ℕ) (d : Entry) → i < length es → same n (get_or es i d).name.0 ≡ false → type_of n (slots_of (drop i es)) other ≡ type_of n (slots_of (drop (i + 1) es)) other
-type_past n es i other d lt is =
-    ap (λ xs. type_of n (slots_of xs) other) (drop_more es i d lt) ∙ ap (λ b. cond b (get_or es i d).cell (type_of n (slots_of (drop (i + 1) es)) other)) is
-
-pub type_none : (n : Name) (es : List Entry) (i other : ℕ) → length es ≤ i → type_of n (slots_of (drop i es)) other ≡ other
-type_none n es i other past = ap (λ xs. type_of n (slots_of xs) other) (drop_all i es past)
-
--- entries of other names, kept at the front
-pub record Kept (n : Name) (es es' : List Entry) (i count : ℕ) : Type 0 where
-  pub long : length es' ≡ length es
-  pub within : count ≤ i
-  pub later : drop i es' ≡ drop i es
-  pub front : slots_of (take count es') ≡ without n (slots_of (take i es))
-
-without_push : (n : Name) (ss : List Slot) (s : Slot) → without n (ss ++ s ∷ []) ≡ without n ss ++ cond (same n s.0) [] (s ∷ [])
-without_push n [] s = by_test (same n s.0)
+pub type_found : (n : Name) (es : List Entry) (other : ℕ) → type_of n (slots_of es) other ≡ cell_or (find (λ (e : Entry). same n e.name.0) es) other
+type_found n [] other = refl
+type_found n (e ∷ es) other = by_test (same n e.name.0) (type_found n es other)
   where
-    by_test : (b : Bool) → cond b [] (s ∷ []) ≡ cond b [] (s ∷ [])
-    by_test b = refl
-without_push n (z ∷ ss) s = by_test (same n z.0) (without_push n ss s)
+    by_test : (b : Bool) → type_of n (slots_of es) other ≡ cell_or (find (λ (e : Entry). same n e.name.0) es) other → cond b e.cell (type_of n (slots_of es) other) ≡ cell_or (cond b (Some e) (find (λ (e : Entry). same n e.name.0) es)) other
+    by_test true later = refl
+    by_test false later = later
+
+-- entries of other names are kept
+pub retained : {F : Type 0} (R : F → Entry → Bool → F → Entry → Type 0) (n : Name) (f : F) → ((e : Entry) (b : Bool) (t : F) (y : Entry) → R f e b t y → (t ≡ f) × (y ≡ e) × (b ≡ not (same n e.name.0))) → (es ys : List Entry) → RetainsInTurn R f es ys → slots_of ys ≡ without n (slots_of es)
+retained R n f says [] ys is = ap slots_of is
+retained R n f says (e ∷ es) ys (b, t, y, call, zs, rest, is) =
+    let said = says e b t y call in
+    let later = retained R n f says es zs (subst (λ u. RetainsInTurn R u es zs) said.0 rest) in
+    ap slots_of is ∙ ap₂ (λ (c : Bool) (z : Entry). slots_of (cond c (z ∷ zs) zs)) said.2 said.1 ∙ by_test (same n e.name.0) later
   where
-    by_test : (b : Bool) → without n (ss ++ s ∷ []) ≡ without n ss ++ cond (same n s.0) [] (s ∷ []) → cond b (without n (ss ++ s ∷ [])) (z ∷ without n (ss ++ s ∷ [])) ≡ cond b (without n ss) (z ∷ without n ss) ++ cond (same n s.0) [] (s ∷ [])
+    by_test : (b : Bool) → slots_of zs ≡ without n (slots_of es) → slots_of (cond (not b) (e ∷ zs) zs) ≡ cond b (without n (slots_of es)) (slot_of e ∷ without n (slots_of es))
     by_test true later = later
-    by_test false later = ap (λ xs. z ∷ xs) later
-
--- what two lists with the same rest have in common
-same_rest : (es es' : List Entry) (i : ℕ) (d : Entry) → i < length es → i < length es' → drop i es' ≡ drop i es → (get_or es' i d ≡ get_or es i d) × (drop (i + 1) es' ≡ drop (i + 1) es)
-same_rest es es' i d lt lt' is =
-    let e : get_or es' i d ∷ drop (i + 1) es' ≡ get_or es i d ∷ drop (i + 1) es = sym (drop_more es' i d lt') ∙ is ∙ drop_more es i d lt in
-    (cc, cc)
-
-module _ (n : Name) (es es' : List Entry) (i count : ℕ) (d : Entry) (lt : i < length es) (kept : Kept n es es' i count) where
-  rest : (get_or es' i d ≡ get_or es i d) × (drop (i + 1) es' ≡ drop (i + 1) es)
-  rest = same_rest es es' i d lt (omega (arith, lt, kept.long)) kept.later
-
-  taken : without n (slots_of (take (i + 1) es)) ≡ without n (slots_of (take i es)) ++ cond (same n (get_or es' i d).name.0) [] (slot_of (get_or es' i d) ∷ [])
-  taken =
-      ap (λ xs. without n (slots_of xs)) (take_more es i d lt) ∙ ap (without n) (slots_append (take i es) (get_or es i d ∷ [])) ∙ without_push n (slots_of (take i es)) (slot_of (get_or es i d)) ∙ ap (λ (e : Entry). without n (slots_of (take i es)) ++ cond (same n e.name.0) [] (slot_of e ∷ [])) (sym rest.0)
-
-  pub kept_other : same n (get_or es' i d).name.0 ≡ true → Kept n es es' (i + 1) count
-  kept_other is =
-      record { long = kept.long; within = omega (arith, kept.within); later = rest.1; front = kept.front ∙ sym (taken ∙ ap (λ b. without n (slots_of (take i es)) ++ cond b [] (slot_of (get_or es' i d) ∷ [])) is ∙ append-nil (without n (slots_of (take i es)))) }
-
-  pub kept_more : same n (get_or es' i d).name.0 ≡ false → Kept n es (set es' count (get_or es' i d)) (i + 1) (count + 1)
-  kept_more is =
-      let e = get_or es' i d in
-      let room : count < length es' = omega (arith, kept.within, lt, kept.long) in
-      record { long = length-set es' count e ∙ kept.long; within = omega (arith, kept.within); later = drop-set-lt (i + 1) es' count e (omega (arith, kept.within)) ∙ rest.1; front = ap slots_of (take_more_set es' count e room) ∙ slots_append (take count es') (e ∷ []) ∙ ap (λ ss. ss ++ slot_of e ∷ []) kept.front ∙ sym (taken ∙ ap (λ b. without n (slots_of (take i es)) ++ cond b [] (slot_of e ∷ [])) is) }
+    by_test false later = ap (λ ss. slot_of e ∷ ss) later

@@ -1,14 +1,11 @@
 -- A typing string written piece by piece into a buffer. Assumes nothing.
-use Rattle.std.proofs.Common.{◌≡◌, ℕ, suc, ◌+◌, ◌/◌, ◌%◌, ◌<◌, ◌≤◌, List, [], ◌∷◌, ◌++◌, length, take, drop, set, sym, refl, ap, ◌∙◌, subst, ap₂, arith, length-append}
-use Rattle.std.proofs.lemmas.List.{append_assoc, drop_at, drop-drop, length-set, set_split, take-append-drop, take_at, take_more_set, drop-set-lt}
+use Rattle.std.proofs.Common.{◌≡◌, ℕ, suc, ◌+◌, ◌/◌, ◌<◌, ◌≤◌, ◌⊎◌, List, [], ◌∷◌, ◌++◌, length, take, drop, set, sym, refl, ap, ◌∙◌, subst, ap₂, inl, inr, arith, length-append}
+use Rattle.std.proofs.lemmas.List.{append_assoc, drop_at, drop-drop, set_split, take-append-drop, take_at}
+use Rattle.std.proofs.lemmas.Bool.{cases_lt}
 use Rattle.layout.specs.Groups.{group}
 use Rattle.layout.proofs.Groups.{groups_small, groups_large}
 use Rattle.typing.specs.Strings.{most}
-use Rattle.inference.specs.Outcomes.{bytes_of}
 use Rattle.inference.specs.TypingStrings.{put_at}
-use Rattle.inference.specs.declared.form_text.FormText.{FormText}
-use Rattle.inference.specs.declared.outcome.Outcome.{Outcome}
-use Rattle.inference.specs.declared.outcome.Outcome.TheVariants.{Formed, Clashed, Overlong}
 
 -- no byte
 pub put_none : (out : List ℕ) (at : ℕ) → out ≡ put_at at [] out
@@ -45,25 +42,10 @@ string_put s a b c text first out₁ out₂ out₃ out₄ p₁ p₂ p₃ p₄ so
     let b₄ = begun_more (s ∷ ((a ++ b) ++ c)) text first out₃ out₄ p₃ p₄ b₃ w₄ e₄ in
     subst (λ bytes. Begun (s ∷ bytes) first out₄ p₄) (append_assoc (a ++ b) c text ∙ append_assoc a b (c ++ text)) b₄
 
--- two bytes
-pub put_two : (out : List ℕ) (at x y : ℕ) → at + 1 < length out → set (set out at x) (at + 1) y ≡ put_at at (x ∷ y ∷ []) out
-put_two out at x y room =
-    let inner = set out at x in
-    let two : suc (at + 1) ≡ at + 2 = omega arith in
-    let room' : at + 1 < length inner = omega (arith, length-set out at x) in
-    set_split inner (at + 1) y room'
-    ∙ ap₂ (λ front back. front ++ y ∷ back) (take_more_set out at x (omega arith)) (ap (λ n. drop n inner) two ∙ drop-set-lt (at + 2) out at x (omega arith))
-    ∙ append_assoc (take at out) (x ∷ []) (y ∷ drop (at + 2) out)
-
--- counts have one byte or two
-pub count_short : (n : ℕ) → n < 128 → group n ≡ n ∷ []
-count_short n small = groups_small 2 n small
-
-pub count_long : (n : ℕ) → 128 ≤ n → n ≤ most → group n ≡ (128 + n % 128) ∷ n / 128 ∷ []
-count_long n large held = groups_large 1 n large ∙ ap (λ ys. (128 + n % 128) ∷ ys) (groups_small 1 (n / 128) (omega arith))
-
--- an outcome without a form has no bytes
-pub no_bytes : (o : Outcome) → ((t : FormText) → o ≡ Formed t → ⊥) → bytes_of o ≡ []
-no_bytes (Formed t) isnt = absurd (isnt t refl)
-no_bytes Clashed isnt = refl
-no_bytes Overlong isnt = refl
+-- a count has one byte or two
+pub count_short : (n : ℕ) → n ≤ most → length (group n) ≤ 2
+count_short n held = by_size (cases_lt n 128)
+  where
+    by_size : (n < 128) ⊎ (128 ≤ n) → length (group n) ≤ 2
+    by_size (inl small) = omega (arith, ap length (groups_small 2 n small))
+    by_size (inr large) = omega (arith, ap length (groups_large 1 n large), ap length (groups_small 1 (n / 128) (omega arith)))

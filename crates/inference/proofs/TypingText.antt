@@ -1,18 +1,16 @@
 -- The string that is written of an outcome is that of the node's typing. Assumes nothing.
-use Rattle.std.proofs.Common.{◌≡◌, ◌+◌, ◌≤◌, min, true, false, cond, leb, List, ◌∷◌, ◌++◌, length, Some, None, Option, sym, refl, ap, ◌∙◌, subst, ap₂}
+use Rattle.std.proofs.Common.{◌≡◌, ◌+◌, ◌≤◌, min, true, false, cond, leb, List, ◌∷◌, ◌++◌, length, Some, None, Option, Ok, Err, sym, refl, ap, ◌∙◌, subst, ap₂, arith}
 use Rattle.std.proofs.lemmas.Bool.{le-leb, lt-leb}
 use Rattle.layout.specs.Groups.{group}
 use Rattle.syntax.specs.declared.kind.Kind.{Kind}
 use Rattle.typing.specs.Forms.{Form}
 use Rattle.typing.specs.Strings.{Status, formed, overlong, Typing, form_bytes, longest, most, status_byte, status_bytes, typing_bytes}
 use Rattle.typing.specs.Typings.{counted, is_clash, is_hole, is_overlong, status_of}
-use Rattle.inference.specs.Outcomes.{Concludes, byte_of, bytes_of, clash_of, overlong_of}
+use Rattle.inference.specs.Outcomes.{Outcome, Concludes, byte_of, bytes_of, clash_of, overlong_of}
 use Rattle.inference.specs.Tallies.{Totals}
 use Rattle.inference.specs.TypingStrings.{string_of}
-use Rattle.inference.specs.declared.outcome.Outcome.{Outcome}
-use Rattle.inference.specs.declared.outcome.Outcome.TheVariants.{Formed, Clashed, Overlong}
+use Rattle.inference.specs.declared.untyped.Untyped.TheVariants.{Clashed, Overlong}
 use Rattle.inference.specs.declared.tally.Tally.{Tally}
-use Rattle.inference.proofs.Adding.{text_short}
 
 -- what an outcome has of a status
 pub record Shows (s : Status) (r : Outcome) : Type 0 where
@@ -22,16 +20,22 @@ pub record Shows (s : Status) (r : Outcome) : Type 0 where
   pub overlong : overlong_of r ≡ is_overlong s
 
 shows : (o : Option Form) (r : Outcome) → Concludes o r → Shows (status_of o) r
-shows None Clashed ends = record { byte = refl; bytes = refl; clash = refl; overlong = refl }
-shows None (Formed t) ends = absurd ends
-shows None Overlong ends = absurd ends
-shows (Some F) Clashed ends = absurd ends
-shows (Some F) (Formed t) ends =
-    let fits : leb (length (form_bytes F)) longest ≡ true = le-leb _ _ (subst (λ bytes. length bytes ≤ longest) ends (text_short t)) in
-    subst (λ b. Shows (cond b (formed F) overlong) (Formed t)) (sym fits) (record { byte = refl; bytes = ends; clash = refl; overlong = refl })
-shows (Some F) Overlong ends =
+shows None (Err Clashed) ends = record { byte = refl; bytes = refl; clash = refl; overlong = refl }
+shows None (Ok t) ends = absurd ends
+shows None (Err Overlong) ends = absurd ends
+shows (Some F) (Err Clashed) ends = absurd ends
+shows (Some F) (Ok t) ends =
+    let fits : leb (length (form_bytes F)) longest ≡ true = le-leb _ _ ends.1 in
+    subst (λ b. Shows (cond b (formed F) overlong) (Ok t)) (sym fits) (record { byte = refl; bytes = ends.0; clash = refl; overlong = refl })
+shows (Some F) (Err Overlong) ends =
     let long : leb (length (form_bytes F)) longest ≡ false = lt-leb _ _ ends in
-    subst (λ b. Shows (cond b (formed F) overlong) Overlong) (sym long) (record { byte = refl; bytes = refl; clash = refl; overlong = refl })
+    subst (λ b. Shows (cond b (formed F) overlong) (Err Overlong)) (sym long) (record { byte = refl; bytes = refl; clash = refl; overlong = refl })
+
+-- what there is of a form is not too long
+pub bytes_short : (o : Option Form) (r : Outcome) → Concludes o r → length (bytes_of r) ≤ longest
+bytes_short None (Ok t) ends = absurd ends
+bytes_short (Some F) (Ok t) ends = omega (arith, ends.1, ap length ends.0)
+bytes_short o (Err u) ends = omega arith
 
 -- the counts of a node's typing
 pub record Counts (T : Typing) (t : Tally) : Type 0 where

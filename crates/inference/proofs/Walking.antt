@@ -273,12 +273,12 @@ come_back n g ms i tidy closed sinks = by_test (cases_Bool (acyclic g))
 
 -- the walks from the first cells are done
 pub record Sofar (g : Graph) (ms : List Mark) (i : ℕ) : Type 0 where
-  pub long : length ms ≡ length g
+  pub long : length g ≤ length ms
   pub closed : (o : ℕ) → mark ms o ≡ Open → ⊥
   pub ranked : Ranked g ms
   pub done : (j : ℕ) → j < i → mark ms (find g j) ≡ Done
 
-pub sofar_none : (g : Graph) (ms : List Mark) → length ms ≡ length g → Fresh ms → Sofar g ms 0
+pub sofar_none : (g : Graph) (ms : List Mark) → length g ≤ length ms → Fresh ms → Sofar g ms 0
 sofar_none g ms long fresh =
     record {
       long = long;
@@ -290,7 +290,7 @@ sofar_none g ms long fresh =
 pub sofar_more : (g : Graph) (ms ms' : List Mark) (i : ℕ) → length ms' ≡ length ms → Sofar g ms i → Walked g ms i ms' → Sofar g ms' (i + 1)
 sofar_more g ms ms' i same sofar walked =
     record {
-      long = same ∙ sofar.long;
+      long = omega (arith, same, sofar.long);
       closed = λ o is. sofar.closed o (walked.opened o is);
       ranked = walked.ranked sofar.ranked;
       done = λ j less. by_place j less (cases_eq j i);

@@ -1,5 +1,5 @@
 -- A term that is written cell by cell. Assumes nothing.
-use Rattle.std.proofs.Common.{◌≡◌, ℕ, suc, ◌+◌, ◌-◌, ◌<◌, ◌≤◌, Bool, true, false, cond, ◌⊎◌, List, [], ◌∷◌, ◌++◌, length, Some, None, Option, sym, refl, ap, ◌∙◌, subst, ap₂, inl, inr, arith, length-append}
+use Rattle.std.proofs.Common.{◌≡◌, ℕ, suc, ◌+◌, ◌-◌, ◌<◌, ◌≤◌, Bool, true, false, cond, ◌⊎◌, List, [], ◌∷◌, ◌++◌, length, Ok, Err, Result, sym, refl, ap, ◌∙◌, subst, ap₂, inl, inr, arith, length-append}
 use Rattle.std.proofs.lemmas.List.{append_assoc}
 use Rattle.layout.specs.Groups.{group}
 use Rattle.layout.proofs.Groups.{groups_some}
@@ -13,7 +13,9 @@ use Rattle.typing.specs.declared.cell.Cell.TheVariants.{Free as free, Link as li
 use Rattle.typing.specs.declared.head.Head.{Head}
 use Rattle.typing.proofs.Numbering.{position_here}
 use Rattle.inference.specs.Writings.{Added, seen_after, spelled, Writes}
-use Rattle.inference.proofs.Spelling.{position_none, spelled_variable, spelled_apply, seen_apply, seen_few}
+use Rattle.inference.specs.declared.script.Script.{Script}
+use Rattle.inference.specs.declared.writer.TooLong.{TooLong}
+use Rattle.inference.proofs.Spelling.{position_none, spelled_variable, spelled_apply, seen_apply}
 
 -- a variable at the place p
 module _ (k p : ℕ) (seen : List ℕ) (place : p ≡ position k seen) where
@@ -35,8 +37,8 @@ module _ (k p : ℕ) (seen : List ℕ) (place : p ≡ position k seen) where
   variable_old before after other is = (is ∙ ap (λ z. before ++ z) bytes_are, sym ((seen_by (member k seen) refl).1 other))
 
 -- There is room for one more variable where its number was written.
-pub room_seen : (p n m : ℕ) (before after : List ℕ) → m ≤ length before → after ≡ before ++ group (5 + p) → length after ≤ n → m < n
-room_seen p n m before after few is short = omega (arith, few, short, ap length is ∙ length-append before (group (5 + p)), groups_some 2 (5 + p))
+pub room_seen : (p m : ℕ) (before after : List ℕ) → m ≤ length before → after ≡ before ++ group (5 + p) → length after ≤ 240 → m < 240
+room_seen p m before after few is short = omega (arith, few, short, ap length is ∙ length-append before (group (5 + p)), groups_some 2 (5 + p))
 
 -- what is read back at a root, by its cell
 module _ (g : Graph) (depth i r : ℕ) (deep : depth ≡ 0 → ⊥) (root : r ≡ find g i) where
@@ -50,29 +52,28 @@ module _ (g : Graph) (depth i r : ℕ) (deep : depth ≡ 0 → ⊥) (root : r �
   read_variable (inr is) = at_root (link is.0) is.1
 
 -- a term that is the one written
-pub writes_as : (t u : Term) (before after seen seen' : List ℕ) (r : Option (Unit {0})) → t ≡ u → Writes u before after seen seen' r → Writes t before after seen seen' r
-writes_as t u before after seen seen' r is = subst (λ z. Writes z before after seen seen' r) (sym is)
+pub writes_as : (t u : Term) (s s' : Script) (r : Result (Unit {0}) TooLong) → t ≡ u → Writes u s s' r → Writes t s s' r
+writes_as t u s s' r is = subst (λ z. Writes z s s' r) (sym is)
 
 -- one term after another
-pub writes_apply : (f x : Term) (before middle after seen seen' seen'' : List ℕ) (r : Option (Unit {0})) → (middle ≡ before ++ spelled seen f) × (seen' ≡ seen_after seen f) → Writes x middle after seen' seen'' r → Writes (f · x) before after seen seen'' r
-writes_apply f x before middle after seen seen' seen'' None first full =
-    let later : length (spelled seen' x) ≡ length (spelled (seen_after seen f) x) = ap (λ s. length (spelled s x)) first.1 in
+pub writes_apply : (f x : Term) (s s' s'' : Script) (r : Result (Unit {0}) TooLong) → (s'.text.items ≡ s.text.items ++ spelled s.seen.items f) × (s'.seen.items ≡ seen_after s.seen.items f) → Writes x s' s'' r → Writes (f · x) s s'' r
+writes_apply f x s s' s'' (Err e) first full =
+    let before = s.text.items in
+    let seen = s.seen.items in
+    let later : length (spelled s'.seen.items x) ≡ length (spelled (seen_after seen f) x) = ap (λ z. length (spelled z x)) first.1 in
     omega (arith, full, later, ap length first.0, length-append before (spelled seen f), ap length (spelled_apply f x seen), length-append (spelled seen f) (spelled (seen_after seen f) x))
-writes_apply f x before middle after seen seen' seen'' (Some u) first second =
+writes_apply f x s s' s'' (Ok u) first second =
+    let before = s.text.items in
+    let seen = s.seen.items in
     let rest = spelled (seen_after seen f) x in (
-      second.0 ∙ ap₂ (λ (m s : List ℕ). m ++ spelled s x) first.0 first.1 ∙ append_assoc before (spelled seen f) rest ∙ ap (λ z. before ++ z) (sym (spelled_apply f x seen)),
-      second.1 ∙ ap (λ s. seen_after s x) first.1 ∙ sym (seen_apply f x seen),
+      second.0 ∙ ap₂ (λ (m z : List ℕ). m ++ spelled z x) first.0 first.1 ∙ append_assoc before (spelled seen f) rest ∙ ap (λ z. before ++ z) (sym (spelled_apply f x seen)),
+      second.1 ∙ ap (λ z. seen_after z x) first.1 ∙ sym (seen_apply f x seen),
     )
 
 pub full_apply : (t f x : Term) (before seen : List ℕ) → t ≡ f · x → longest < length before + length (spelled seen f) → longest < length before + length (spelled seen t)
 full_apply t f x before seen is full =
     omega (arith, full, ap (λ z. length (spelled seen z)) is ∙ ap length (spelled_apply f x seen), length-append (spelled seen f) (spelled (seen_after seen f) x))
 
--- no more variables have appeared than bytes are written
-pub fewer_after : (t : Term) (before after seen seen' : List ℕ) → length seen ≤ length before → (after ≡ before ++ spelled seen t) × (seen' ≡ seen_after seen t) → length seen' ≤ length after
-fewer_after t before after seen seen' few is =
-    omega (arith, few, ap length is.0, ap length is.1, length-append before (spelled seen t), seen_few t seen)
-
-pub writes_head : (h : Head) (n : ℕ) (before after seen : List ℕ) (r : Option (Unit {0})) → n ≡ token_of h → Added (group n) before after r → Writes (head h) before after seen seen r
-writes_head h n before after seen None is full = omega (arith, full, ap (λ m. length (group m)) is)
-writes_head h n before after seen (Some u) is added = (added ∙ ap (λ m. before ++ group m) is, refl)
+pub writes_head : (h : Head) (n : ℕ) (s s' : Script) (r : Result (Unit {0}) TooLong) → n ≡ token_of h → Added (group n) s s' r → Writes (head h) s s' r
+writes_head h n s s' (Ok u) is added = (added.0 ∙ ap (λ m. s.text.items ++ group m) is, added.1)
+writes_head h n s s' (Err e) is full = omega (arith, full, ap (λ m. length (group m)) is)

@@ -11,10 +11,23 @@ use Rattle.typing.specs.Terms.{Term}
 use Rattle.inference.specs.Slots.{slots_of}
 use Rattle.inference.specs.Writings.{seen_after, spelled, seen_after_all, spelled_all, slots_with, EntriesWithin, EntriesGo}
 use Rattle.inference.specs.declared.entry.Entry.{Entry}
-use Rattle.inference.proofs.Spelling.{spelled_entry, seen_entry, spelled_form, seen_few, seen_few_all}
+use Rattle.inference.specs.declared.script.Script.{Script}
+use Rattle.inference.proofs.Spelling.{spelled_entry, seen_entry, spelled_form}
 
 -- the entry at place i, which is the next one
-module _ (g : Graph) (es : List Entry) (i : ℕ) (d : Entry) (start seen_first text seen : List ℕ) (go : EntriesGo g es i start seen_first text seen) (lt : i < length es) where
+module _ (g : Graph) (es : List Entry) (i : ℕ) (d : Entry) (first s : Script) (go : EntriesGo g es i first s) (lt : i < length es) where
+  abbrev start : List ℕ
+  start = first.text.items
+
+  abbrev seen_first : List ℕ
+  seen_first = first.seen.items
+
+  abbrev text : List ℕ
+  text = s.text.items
+
+  abbrev seen : List ℕ
+  seen = s.seen.items
+
   abbrev entry : Entry
   entry = get_or es i d
 
@@ -43,29 +56,27 @@ module _ (g : Graph) (es : List Entry) (i : ℕ) (d : Entry) (start seen_first t
   pub full_name : longest < length text + length entry.name.0 → longest < length start + length (spelled_all seen_first (entries_at g (slots_of es)))
   full_name full = omega (arith, full, long)
 
-  module _ (named : List ℕ) (is : named ≡ text ++ entry.name.0) where
-    pub fewer_named : length seen ≤ length named
-    fewer_named = omega (arith, go.fewer, ap length is, length-append text entry.name.0)
+  module _ (named : Script) (is : named.text.items ≡ text ++ entry.name.0) (kept : named.seen.items ≡ seen) where
+    pub full_cell : longest < length named.text.items + length (spelled named.seen.items term) → longest < length start + length (spelled_all seen_first (entries_at g (slots_of es)))
+    full_cell full = omega (arith, full, long, ap length is, length-append text entry.name.0, ap (λ z. length (spelled z term)) kept)
 
-    pub full_cell : longest < length named + length (spelled seen term) → longest < length start + length (spelled_all seen_first (entries_at g (slots_of es)))
-    full_cell full = omega (arith, full, long, ap length is, length-append text entry.name.0)
-
-    pub entries_again : (after seen' : List ℕ) → (after ≡ named ++ spelled seen term) × (seen' ≡ seen_after seen term) → EntriesGo g es (i + 1) start seen_first after seen'
-    entries_again after seen' wrote =
+    pub entries_again : (after : Script) → (after.text.items ≡ named.text.items ++ spelled named.seen.items term) × (after.seen.items ≡ seen_after named.seen.items term) → EntriesGo g es (i + 1) first after
+    entries_again after wrote =
         let S = spelled seen term in
         let R = spelled_all (seen_after seen term) rest in
-        let joined : (named ++ S) ++ R ≡ text ++ (entry.name.0 ++ (S ++ R)) = append_assoc named S R ∙ ap (λ z. z ++ (S ++ R)) is ∙ append_assoc text entry.name.0 (S ++ R) in
+        let seen_then : after.seen.items ≡ seen_after seen term = wrote.1 ∙ ap (λ z. seen_after z term) kept in
+        let written : after.text.items ≡ named.text.items ++ S = wrote.0 ∙ ap (λ z. named.text.items ++ spelled z term) kept in
+        let joined : (named.text.items ++ S) ++ R ≡ text ++ (entry.name.0 ++ (S ++ R)) = append_assoc named.text.items S R ∙ ap (λ z. z ++ (S ++ R)) is ∙ append_assoc text entry.name.0 (S ++ R) in
         record {
-          bytes = ap₂ (λ (a s : List ℕ). a ++ spelled_all s rest) wrote.0 wrote.1 ∙ joined ∙ bytes_here;
-          after = ap (λ s. seen_after_all s rest) wrote.1 ∙ sym (ap (seen_after_all seen) here ∙ seen_entry entry.name.0 term rest seen) ∙ go.after;
+          bytes = ap₂ (λ (a z : List ℕ). a ++ spelled_all z rest) written seen_then ∙ joined ∙ bytes_here;
+          after = ap (λ z. seen_after_all z rest) seen_then ∙ sym (ap (seen_after_all seen) here ∙ seen_entry entry.name.0 term rest seen) ∙ go.after;
           within = (subst (EntriesWithin (length g)) (drop_more es i d lt) go.within).1;
-          fewer = omega (arith, fewer_named, ap length wrote.0, ap length wrote.1, length-append named S, seen_few term seen);
         }
 
-pub entries_all : (g : Graph) (es : List Entry) (i : ℕ) (start seen_first text seen : List ℕ) → EntriesGo g es i start seen_first text seen → length es ≤ i → (text ≡ start ++ spelled_all seen_first (entries_at g (slots_of es))) × (seen ≡ seen_after_all seen_first (entries_at g (slots_of es)))
-entries_all g es i start seen_first text seen go le =
+pub entries_all : (g : Graph) (es : List Entry) (i : ℕ) (first s : Script) → EntriesGo g es i first s → length es ≤ i → (s.text.items ≡ first.text.items ++ spelled_all first.seen.items (entries_at g (slots_of es))) × (s.seen.items ≡ seen_after_all first.seen.items (entries_at g (slots_of es)))
+entries_all g es i first s go le =
     let none : entries_at g (slots_of (drop i es)) ≡ [] = ap (λ xs. entries_at g (slots_of xs)) (drop_all i es le) in
-    (sym (ap (λ z. text ++ spelled_all seen z) none ∙ append-nil text) ∙ go.bytes, sym (ap (seen_after_all seen) none) ∙ go.after)
+    (sym (ap (λ z. s.text.items ++ spelled_all s.seen.items z) none ∙ append-nil s.text.items) ∙ go.bytes, sym (ap (seen_after_all s.seen.items) none) ∙ go.after)
 
 length_entries : (g : Graph) (es : List Entry) → length (entries_at g (slots_of es)) ≡ length es
 length_entries g [] = refl
@@ -98,9 +109,6 @@ module _ (g : Graph) (es : List Entry) (result : ℕ) (first-text first-seen cou
   full_entries full = omega (arith, full, long_form)
 
   module _ (listed seen : List ℕ) (wrote : (listed ≡ counted ++ spelled_all first-seen all) × (seen ≡ seen_after_all first-seen all)) where
-    pub fewer_listed : length seen ≤ length listed
-    fewer_listed = omega (arith, ap length wrote.0, ap length wrote.1, length-append counted (spelled_all first-seen all), seen_few_all all first-seen, ap length blank-seen)
-
     pub full_result : longest < length listed + length (spelled seen last) → longest < length bytes
     full_result full =
         omega (arith, full, long_form, ap length wrote.0, length-append counted (spelled_all first-seen all), ap (λ s. length (spelled s last)) wrote.1)

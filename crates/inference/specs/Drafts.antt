@@ -16,7 +16,7 @@ use Rattle.typing.specs.declared.cell.Cell.TheVariants.{Free as free}
 use Rattle.typing.specs.declared.head.Head.{Head}
 use Rattle.inference.specs.Layouts.{Answer, Legible, shift}
 use Rattle.inference.specs.Builds.{build}
-use Rattle.inference.specs.PairStacks.{pairs_of}
+use Rattle.inference.specs.Worklists.{pairs_of}
 use Rattle.inference.specs.Slots.{Slot, entries_of, slots_of, most_entries}
 use Rattle.inference.specs.Tables.{graph_of, most_cells}
 use Rattle.inference.specs.declared.draft.Draft.{Draft}

@@ -1,3 +1,4 @@
+pub mod TidyGraphs
 pub mod Meetings
 pub mod Worklists
 pub mod Walks
@@ -6,7 +7,6 @@ pub mod Layouts
 pub mod Slots
 pub mod Writings
 pub mod Drafts
-pub mod PairStacks
 pub mod Outcomes
 pub mod TypingStrings
 pub mod Builds

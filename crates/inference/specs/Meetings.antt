@@ -1,24 +1,20 @@
 -- A meeting of two cells as the code has it. Assumes nothing.
-use Rattle.std.specs.Prelude.{ℕ, [], ◌∷◌, Some, None, Option}
-use Rattle.typing.specs.Cells.{Graph, Pairs, Outcome, clash, more, linked}
+use Rattle.std.specs.Prelude.{[], ◌∷◌, ◌++◌, Some, None, Option, Result, Ok, Err}
+use Rattle.typing.specs.Cells.{Graph, Pairs, Outcome, clash, more}
 use Rattle.typing.specs.declared.cell.Cell.{Cell}
-use Rattle.inference.specs.declared.meeting.Meeting.{Meeting}
-use Rattle.inference.specs.declared.meeting.Meeting.TheVariants.{Clash, One, Parts}
+use Rattle.inference.specs.declared.meeting.Clash.{Clash}
+use Rattle.inference.specs.declared.meeting.Parts.{Parts}
 
-abbrev pub met_of : Meeting → Option (Cell × Pairs)
-met_of Clash = None
-met_of (One c) = Some (c, [])
-met_of (Parts c p q) = Some (c, p ∷ q ∷ [])
+-- what has to be made equal too
+abbrev pub pairs_in : Option Parts → Pairs
+pairs_in None = []
+pairs_in (Some p) = p.functions ∷ p.arguments ∷ []
 
--- the graph after two of its cells met
-abbrev pub after : Graph → ℕ → ℕ → Meeting → Graph
-after g low high Clash = g
-after g low high (One c) = linked g low high c
-after g low high (Parts c p q) = linked g low high c
+abbrev pub met_of : Result (Cell × Option Parts) Clash → Option (Cell × Pairs)
+met_of (Err e) = None
+met_of (Ok m) = Some (m.0, pairs_in m.1)
 
 -- What a step leaves, where two cells met or were one already, and other pairs wait.
-abbrev pub stepped : Option Meeting → Graph → Pairs → Outcome
-stepped None g ps = more g ps
-stepped (Some Clash) g ps = clash
-stepped (Some (One c)) g ps = more g ps
-stepped (Some (Parts c p q)) g ps = more g (p ∷ q ∷ ps)
+abbrev pub stepped : Result (Option Parts) Clash → Graph → Pairs → Outcome
+stepped (Err e) g ps = clash
+stepped (Ok parts) g ps = more g (pairs_in parts ++ ps)

@@ -13,9 +13,8 @@ use Rattle.typing.specs.Solve.{solve}
 use Rattle.typing.specs.Typings.{rule}
 use Rattle.inference.specs.Drafts.{State, Roomy, SlotsWithin}
 use Rattle.inference.specs.Joins.{AllRead, forms_of}
-use Rattle.inference.specs.Outcomes.{Concludes}
+use Rattle.inference.specs.Outcomes.{Concludes, Outcome}
 use Rattle.inference.specs.Tallies.{read_all}
-use Rattle.inference.specs.declared.outcome.Outcome.{Outcome}
 
 -- a draft that can be solved
 pub record Ready (S : State) (result : ℕ) : Type 0 where

@@ -1,12 +1,10 @@
 -- The entries of a form over cells. Assumes nothing.
-use Rattle.std.specs.Prelude.{◌≡◌, ℕ, ◌<◌, ◌≤◌, List, [], ◌∷◌, ◌++◌, length, take, drop, Some, None, Option, Result, MatchResult}
+use Rattle.std.specs.Prelude.{◌≡◌, ℕ, ◌<◌, ◌≤◌, List, [], ◌∷◌, ◌++◌, length, take, drop, Some, None, Option, Result, MatchResult, slice_index_or}
 use Rattle.std.specs.List.{insert as inserted}
 use Rattle.syntax.specs.declared.fault.Fault.{Fault}
 use Rattle.typing.specs.Forms.{Name}
 use Rattle.typing.specs.Constraints.{insert}
 use Rattle.inference.specs.declared.entries.Entries.{Entries}
-use Rattle.inference.specs.declared.entries.insert.Place.{Place}
-use Rattle.inference.specs.declared.entries.insert.Place.TheVariants.{Listed, At}
 use Rattle.inference.specs.declared.entry.Entry.{Entry}
 
 -- a name with the cell of its type
@@ -21,7 +19,7 @@ slots_of [] = []
 slots_of (e ∷ es) = slot_of e ∷ slots_of es
 
 abbrev pub entries_of : Entries → List Entry
-entries_of l = take l.len l.entries
+entries_of l = l.entries.items
 
 -- how many entries a table can hold
 abbrev pub most_entries : ℕ
@@ -42,10 +40,11 @@ abbrev pub Goes : Slot → List Slot → ℕ → Type 0
 Goes s ss n =
     ((insert s ss).0 ≡ take n ss ++ (insert s (drop n ss)).0) × ((insert s ss).1 ≡ (insert s (drop n ss)).1)
 
--- where a slot belongs
-abbrev pub Finds : Slot → List Slot → Place → Type 0
-Finds s ss (Listed cell) = insert s ss ≡ (ss, (cell, s.1) ∷ [])
-Finds s ss (At i) = (i ≤ length ss) × (insert s ss ≡ (inserted ss i s, []))
+-- what is read past the end
+abbrev pub blank : Entry
+blank = record { name = record { 0 = [] }; cell = 0 }
 
-abbrev pub Puts : Entry → ℕ → List Entry → List Entry → Result (Unit {0}) Fault → Type 0
-Puts e at es es' r = MatchResult r (λ done. es' ≡ inserted es at e) (λ fault. most_entries ≤ length es)
+-- where an entry's name is listed, or else where the entry belongs
+abbrev pub Finds : Entry → List Entry → Result ℕ ℕ → Type 0
+Finds e es r =
+    MatchResult r (λ i. (i < length es) × (insert (slot_of e) (slots_of es) ≡ (slots_of es, ((slice_index_or es i blank).cell, e.cell) ∷ []))) (λ i. (i ≤ length es) × (insert (slot_of e) (slots_of es) ≡ (slots_of (inserted es i e), [])))

@@ -1,8 +1,7 @@
 -- The typing string that the code writes. Assumes nothing.
 use Rattle.std.specs.Prelude.{ℕ, ◌+◌, List, ◌∷◌, ◌++◌, length, take, drop}
 use Rattle.layout.specs.Groups.{group}
-use Rattle.inference.specs.Outcomes.{byte_of, bytes_of}
-use Rattle.inference.specs.declared.outcome.Outcome.{Outcome}
+use Rattle.inference.specs.Outcomes.{Outcome, byte_of, bytes_of}
 use Rattle.inference.specs.declared.tally.Tally.{Tally}
 
 -- a buffer with a text in it from a place on

@@ -1,13 +1,14 @@
 -- The pairs on a stack as the code has it, and what a run of them leaves. Assumes nothing.
-use Rattle.std.specs.Prelude.{ℕ, zero, suc, Bool, true, false, [], ◌∷◌, Some, None, Option, slice_index_or}
+use Rattle.std.specs.Prelude.{ℕ, Some, None, Option, Result, Ok, Err, reverse}
+use Rattle.arrayvec.specs.ArrayVec.{ArrayVec}
 use Rattle.typing.specs.Cells.{Graph, Pairs}
+use Rattle.inference.specs.declared.meeting.Clash.{Clash}
 
--- the first so many pairs of a stack, the last one first
-abbrev pub stacked : ℕ → Pairs → Pairs
-stacked zero stack = []
-stacked (suc n) stack = slice_index_or stack n (0, 0) ∷ stacked n stack
+-- the pair that was pushed last is the first
+abbrev pub pairs_of : ArrayVec (ℕ × ℕ) → Pairs
+pairs_of stack = reverse stack.items
 
 -- the graph that is left, or none where two cells clashed
-abbrev pub unified : Bool → Graph → Option Graph
-unified true g = Some g
-unified false g = None
+abbrev pub unified : Result (Unit {0}) Clash → Graph → Option Graph
+unified (Ok done) g = Some g
+unified (Err e) g = None

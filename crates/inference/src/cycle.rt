@@ -1,11 +1,15 @@
 // The occurs check: whether some cell is reached from its own parts.
-ghost use Rattle.std.specs.Prelude.{◌≡◌, ◌<◌, true, false, length};
+ghost use Rattle.std.specs.Prelude.{◌≡◌, ◌<◌, ◌≤◌, true, false, length, MatchResult};
 ghost use Rattle.typing.specs.Cells.{acyclic};
-ghost use Rattle.typing.specs.Solutions.{Tidy};
 ghost use Rattle.inference.specs.Walks.{Fresh, Sinks, Walked};
 
-use crate::link::root;
+use crate::graph::Graph;
+use crate::table::MOST_CELLS;
 use typing::cell::Cell;
+
+// A cell is reached from its own parts.
+#[derive(Clone, Copy, Debug, PartialEq, Eq)]
+pub struct Cycle;
 
 // A cell is not entered yet, or its parts are being walked, or all below it is known to be well.
 #[derive(Clone, Copy)]
@@ -15,45 +19,45 @@ pub enum Mark {
     Done,
 }
 
-// Walks down from a cell, each cell once; false where it comes back to one that is open.
-fn descend(cells: &[Cell], marks: &mut [Mark], start: usize) -> bool
-    requires tidy { Tidy (length cells.now) cells.now }
-    requires within { start < length cells.now }
-    requires long { length marks.old ≡ length cells.now }
-    ensures refuses { result ≡ false → Sinks cells.now marks.old start }
-    ensures passes { result ≡ true → Walked cells.now marks.old start marks.new }
+fn unmarked() -> [Mark; MOST_CELLS]
+    ensures long { length result ≡ 1440 }
+    ensures fresh { Fresh result }
 {
-    let top = root(cells, start);
-    match marks[top] {
-        Mark::Open => return false,
-        Mark::Done => return true,
-        Mark::Unseen => {}
-    }
-    marks[top] = Mark::Open;
-    let cell = cells[top];
-    if let Cell::Apply(a, b) = cell {
-        if !descend(cells, marks, a) {
-            return false;
-        }
-        if !descend(cells, marks, b) {
-            return false;
-        }
-    }
-    marks[top] = Mark::Done;
-    true
+    [Mark::Unseen; MOST_CELLS]
 }
 
-// Whether no cell is reached from its own parts, where no cell is marked yet.
-pub(crate) fn is_acyclic(cells: &[Cell], marks: &mut [Mark]) -> bool
-    requires tidy { Tidy (length cells.now) cells.now }
-    requires long { length marks.old ≡ length cells.now }
-    requires fresh { Fresh marks.old }
-    ensures { result ≡ acyclic cells.now }
-{
-    for i in 0..cells.len() {
-        if !descend(cells, marks, i) {
-            return false;
+impl<'a> Graph<'a> {
+    // Walks down from a cell, each cell once, and refuses to come back to one that is open.
+    fn descend(&self, marks: &mut [Mark], start: usize) -> Result<(), Cycle>
+        requires within { start < length self.now.cells.now }
+        requires long { length self.now.cells.now ≤ length marks.old }
+        ensures { MatchResult result (λ _. Walked self.now.cells.now marks.old start marks.new) (λ _. Sinks self.now.cells.now marks.old start) }
+    {
+        let top = self.root(start);
+        match marks[top] {
+            Mark::Open => return Err(Cycle),
+            Mark::Done => return Ok(()),
+            Mark::Unseen => {}
         }
+        marks[top] = Mark::Open;
+        let cell = self.cells[top];
+        if let Cell::Apply(a, b) = cell {
+            self.descend(marks, a)?;
+            self.descend(marks, b)?;
+        }
+        marks[top] = Mark::Done;
+        Ok(())
     }
-    true
+
+    // Refuses a graph in which a cell is reached from its own parts.
+    pub(crate) fn check_acyclic(&self) -> Result<(), Cycle>
+        requires { length self.now.cells.now ≤ 1440 }
+        ensures { MatchResult result (λ _. acyclic self.now.cells.now ≡ true) (λ _. acyclic self.now.cells.now ≡ false) }
+    {
+        let mut marks = unmarked();
+        for i in 0..self.cells.len() {
+            self.descend(&mut marks, i)?;
+        }
+        Ok(())
+    }
 }

@@ -1,15 +1,116 @@
 // A problem as it is drafted over cells: the graph, the entries of the form, and the pairs of cells
 // that have to be equal.
-use crate::entries::Entries;
-use crate::pairs::Pairs;
-use crate::table::Table;
+ghost use Rattle.std.specs.Prelude.{◌≡◌, ◌≤◌, []};
+ghost use Rattle.typing.specs.Cells.{unify};
+ghost use Rattle.typing.specs.Constraints.{type_of};
+ghost use Rattle.typing.specs.Posing.{finished_at};
+ghost use Rattle.inference.specs.Drafts.{Does, LaysAt, build_at, equate_at, put_slot, state_of, unknowns};
+ghost use Rattle.inference.specs.Nodes.{Ready};
+ghost use Rattle.inference.specs.Outcomes.{Concludes};
+ghost use Rattle.inference.specs.Posed.{drop_name};
 
-pub mod build;
-pub mod solved;
+use crate::entries::Entries;
+use crate::entry::Entry;
+use crate::graph::Graph;
+use crate::lay::lay_term;
+use crate::outcome::Outcome;
+use crate::table::Table;
+use crate::worklist::MOST_PAIRS;
+use crate::writer::write_form;
+use arrayvec::ArrayVec;
+use syntax::fault::Fault;
+use syntax::name::Name;
+use typing::cell::Cell;
+use typing::head::Head;
 
 #[derive(Drop)]
 pub struct Draft {
     table: Table,
     entries: Entries,
-    pairs: Pairs,
+    pairs: ArrayVec<(usize, usize), MOST_PAIRS>,
+}
+
+impl Draft {
+    pub(crate) fn new() -> Draft
+        ensures { state_of result ≡ unknowns 0 }
+    {
+        Draft {
+            table: Table::new(),
+            entries: Entries::new(),
+            pairs: ArrayVec::new(),
+        }
+    }
+
+    // Adds so many free cells to a draft that has none.
+    pub(crate) fn push_free(&mut self, count: usize) -> Result<(), Fault>
+        requires { state_of self.old ≡ unknowns 0 }
+        ensures { Does (unknowns count, tt) (state_of self.new) result }
+    {
+        self.table.push_free(count)
+    }
+
+    // Lays out the term at the front of some bytes, whose variables have the cells from `base` on.
+    pub(crate) fn lay<'a>(
+        &mut self,
+        bytes: &'a [u8],
+        base: usize,
+    ) -> Result<(usize, &'a [u8]), Fault>
+        requires { base ≤ 1440 }
+        ensures { LaysAt base bytes.now (state_of self.old) (state_of self.new) result }
+    {
+        lay_term(bytes, base, &mut self.table)
+    }
+
+    // Adds a head over the cells of its parts, and answers its cell.
+    pub(crate) fn build(&mut self, head: Head, parts: &[usize]) -> Result<usize, Fault>
+        ensures { Does (build_at head parts.now (state_of self.old)) (state_of self.new) result }
+    {
+        self.table.build(head, parts)
+    }
+
+    // Adds a head without parts, and answers its cell.
+    pub(crate) fn atom(&mut self, head: Head) -> Result<usize, Fault>
+        ensures { Does (build_at head [] (state_of self.old)) (state_of self.new) result }
+    {
+        self.table.push(Cell::Atom(head))
+    }
+
+    // Takes a name off the list; the answer is its cell, or the one at hand if it is not listed.
+    pub(crate) fn remove(&mut self, name: Name, other: usize) -> usize
+        ensures state { state_of self.new ≡ drop_name name.0 (state_of self.old) }
+        ensures value { result ≡ type_of name.0 (state_of self.old).slots other }
+    {
+        self.entries.remove(name, other)
+    }
+
+    // Two cells have to be equal.
+    pub(crate) fn equate(&mut self, a: usize, b: usize) -> Result<(), Fault>
+        ensures { Does (equate_at a b (state_of self.old), tt) (state_of self.new) result }
+    {
+        match self.pairs.try_push((a, b)) {
+            Ok(()) => Ok(()),
+            Err(_) => Err(Fault::ShortBuffer),
+        }
+    }
+
+    // Lists an entry; where its name is listed already, the two cells have to be equal.
+    pub(crate) fn put(&mut self, entry: Entry) -> Result<(), Fault>
+        ensures { Does (put_slot (entry.name.0, entry.cell) (state_of self.old), tt) (state_of self.new) result }
+    {
+        match self.entries.insert(entry)? {
+            Some(listed) => self.equate(listed, entry.cell),
+            None => Ok(()),
+        }
+    }
+
+    // The most general form of the entries and the type in a cell.
+    pub(crate) fn solve(&mut self, type_cell: usize) -> Outcome
+        requires { Ready (state_of self.old) type_cell }
+        ensures { Concludes (finished_at (record { entries = (state_of self.old).slots; result = type_cell }) (unify (state_of self.old).graph (state_of self.old).pairs)) result }
+    {
+        let mut graph = Graph::new(self.table.cells.as_mut_slice());
+        graph.unify(&mut self.pairs)?;
+        graph.check_acyclic()?;
+        Ok(write_form(&graph, self.entries.as_slice(), type_cell)?)
+    }
 }

@@ -6,3 +6,12 @@ pub struct Entry {
     pub name: Name,
     pub cell: usize,
 }
+
+impl Default for Entry {
+    fn default() -> Entry {
+        Entry {
+            name: Name([0; 4]),
+            cell: 0,
+        }
+    }
+}

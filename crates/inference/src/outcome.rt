@@ -1,65 +1,72 @@
-// What is found of a node.
-ghost use Rattle.std.specs.Prelude.{◌≡◌, ◌+◌, ◌≤◌, length};
-ghost use Rattle.inference.specs.Outcomes.{byte_of, bytes_of, clash_of, overlong_of};
-ghost use Rattle.inference.specs.TypingStrings.{put_at};
+// What is found of a node: its form, or why it has none.
+ghost use Rattle.std.specs.Prelude.{◌≡◌};
+ghost use Rattle.inference.specs.Outcomes.{byte_of, clash_of, overlong_of};
 
-use crate::form_text::FormText;
+use crate::cycle::Cycle;
+use crate::meeting::Clash;
+use crate::script::FormText;
+use crate::untyped::Untyped;
+use crate::writer::TooLong;
 
-// The node's form; or that no form fits it; or that its form is too long.
-#[derive(Drop)]
-pub enum Outcome {
-    Formed(FormText),
-    Clashed,
-    Overlong,
+pub type Outcome = Result<FormText, Untyped>;
+
+// How many clashes the node itself is.
+pub(crate) fn clashes(outcome: &Outcome) -> u32
+    ensures { result ≡ clash_of outcome.now }
+{
+    match outcome {
+        Err(Untyped::Clashed) => 1,
+        _ => 0,
+    }
 }
 
-impl Outcome {
-    // How many clashes the node itself is.
-    pub(crate) fn clashes(&self) -> u32
-        ensures { result ≡ clash_of self.now }
-    {
-        match self {
-            Outcome::Formed(_) | Outcome::Overlong => 0,
-            Outcome::Clashed => 1,
-        }
+// How many overlong nodes the node itself is.
+pub(crate) fn overlongs(outcome: &Outcome) -> u32
+    ensures { result ≡ overlong_of outcome.now }
+{
+    match outcome {
+        Err(Untyped::Overlong) => 1,
+        _ => 0,
     }
+}
 
-    // How many overlong nodes the node itself is.
-    pub(crate) fn overlongs(&self) -> u32
-        ensures { result ≡ overlong_of self.now }
-    {
-        match self {
-            Outcome::Formed(_) | Outcome::Clashed => 0,
-            Outcome::Overlong => 1,
-        }
+// The first byte of a typing string.
+pub(crate) fn status(outcome: &Outcome) -> u8
+    ensures { result ≡ byte_of outcome.now }
+{
+    match outcome {
+        Ok(_) => 0,
+        Err(Untyped::Clashed) => 1,
+        Err(Untyped::Overlong) => 2,
     }
+}
 
-    // The first byte of a typing string.
-    pub(crate) fn status(&self) -> u8
-        ensures { result ≡ byte_of self.now }
-    {
-        match self {
-            Outcome::Formed(_) => 0,
-            Outcome::Clashed => 1,
-            Outcome::Overlong => 2,
-        }
+impl From<Clash> for Untyped {
+    ghost use Rattle.inference.specs.declared.untyped.Untyped.TheVariants.{Clashed};
+
+    ghost from_gives = { λ _ u. u ≡ Clashed };
+
+    fn from(_clash: Clash) -> Untyped {
+        Untyped::Clashed
     }
+}
 
-    // Writes the bytes of the form, if there is one, into a buffer from a place on; the answer is the
-    // place behind them.
-    pub(crate) fn copy_to(&self, out: &mut [u8], at: usize) -> usize
-        requires place { at ≤ 7 }
-        requires room { 247 ≤ length out.old }
-        ensures end { result ≡ at + length (bytes_of self.now) }
-        ensures wrote { out.new ≡ put_at at (bytes_of self.now) out.old }
-    {
-        match self {
-            Outcome::Formed(text) => {
-                let end = at + text.len();
-                text.copy_to(out, at);
-                end
-            }
-            _ => at,
-        }
+impl From<Cycle> for Untyped {
+    ghost use Rattle.inference.specs.declared.untyped.Untyped.TheVariants.{Clashed};
+
+    ghost from_gives = { λ _ u. u ≡ Clashed };
+
+    fn from(_cycle: Cycle) -> Untyped {
+        Untyped::Clashed
+    }
+}
+
+impl From<TooLong> for Untyped {
+    ghost use Rattle.inference.specs.declared.untyped.Untyped.TheVariants.{Overlong};
+
+    ghost from_gives = { λ _ u. u ≡ Overlong };
+
+    fn from(_full: TooLong) -> Untyped {
+        Untyped::Overlong
     }
 }

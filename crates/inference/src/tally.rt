@@ -6,7 +6,7 @@ ghost use Rattle.typing.specs.Typings.{is_hole};
 ghost use Rattle.inference.specs.Outcomes.{clash_of, overlong_of};
 ghost use Rattle.inference.specs.Tallies.{AtMost, Sums, Tells, TellsNot};
 
-use crate::outcome::Outcome;
+use crate::outcome::{Outcome, clashes, overlongs};
 use forms::outline::read_typing;
 use syntax::fault::Fault;
 use syntax::kind::Kind;
@@ -73,8 +73,8 @@ impl Tally {
         ensures holes { result.holes ≡ min most (is_hole kind + self.holes) }
     {
         Tally {
-            clashes: MOST_COUNT.min(outcome.clashes() + self.clashes),
-            overlongs: MOST_COUNT.min(outcome.overlongs() + self.overlongs),
+            clashes: MOST_COUNT.min(clashes(outcome) + self.clashes),
+            overlongs: MOST_COUNT.min(overlongs(outcome) + self.overlongs),
             holes: MOST_COUNT.min(count_hole(kind) + self.holes),
         }
     }

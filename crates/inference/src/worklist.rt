@@ -1,37 +1,33 @@
 // Unification: pairs of cells are made equal, and then the parts of those, until none is left.
 ghost use Rattle.std.specs.Prelude.{◌≡◌, ◌+◌, ◌≤◌, length};
-ghost use Rattle.typing.specs.Cells.{unify};
-ghost use Rattle.typing.specs.Solutions.{Tidy, Within, live};
-ghost use Rattle.inference.specs.Worklists.{stacked, unified};
+ghost use Rattle.typing.specs.Cells as cells;
+ghost use Rattle.typing.specs.Solutions.{Within};
+ghost use Rattle.inference.specs.Worklists.{pairs_of, unified};
 
-use crate::meeting::{Meeting, equate};
-use typing::cell::Cell;
+use crate::graph::Graph;
+use crate::meeting::Clash;
+use arrayvec::ArrayVec;
 
-// Makes the first `count` pairs of a stack equal, the last one first; false where no term is both of
-// two cells. The stack has room for the parts, since a pair of parts takes the place of a cell that
+// How many pairs there can be: as many as cells, since a pair of parts takes the place of a cell that
 // becomes a link.
-pub(crate) fn run(cells: &mut [Cell], stack: &mut [(usize, usize)], count: usize) -> bool
-    requires tidy { Tidy (length cells.old) cells.old }
-    requires within { Within (length cells.old) (stacked count stack.old) }
-    requires room { live cells.old + count ≤ length stack.old }
-    ensures { unified result cells.new ≡ unify cells.old (stacked count stack.old) }
-{
-    let mut left = count;
-    while left > 0 {
-        left -= 1;
-        let (a, b) = stack[left];
-        let Some(meeting) = equate(cells, a, b) else {
-            continue;
-        };
-        match meeting {
-            Meeting::Clash => return false,
-            Meeting::One(_) => {}
-            Meeting::Parts(_, functions, arguments) => {
-                stack[left] = arguments;
-                stack[left + 1] = functions;
-                left += 2;
+pub const MOST_PAIRS: usize = 1440;
+
+impl<'a> Graph<'a> {
+    // Makes pairs of cells equal, the last one first.
+    pub(crate) fn unify(
+        &mut self,
+        pairs: &mut ArrayVec<(usize, usize), MOST_PAIRS>,
+    ) -> Result<(), Clash>
+        requires within { Within (length self.old.cells.now) (pairs_of pairs.old) }
+        requires room { length self.old.cells.now + length pairs.old.items ≤ 1440 }
+        ensures { unified result self.new.cells.now ≡ cells.unify self.old.cells.now (pairs_of pairs.old) }
+    {
+        while let Some((a, b)) = pairs.pop() {
+            if let Some(parts) = self.equate(a, b)? {
+                pairs.push(parts.arguments);
+                pairs.push(parts.functions);
             }
         }
+        Ok(())
     }
-    true
 }

@@ -1,93 +1,124 @@
 // Writing the form that a graph of cells holds, its variables numbered by first appearance.
-ghost use Rattle.std.specs.Prelude.{◌<◌, ◌≤◌, length};
+ghost use Rattle.std.specs.Prelude.{◌≡◌, ◌<◌, ◌≤◌, [], length};
+ghost use Rattle.layout.specs.Groups as groups;
 ghost use Rattle.layout.specs.Groups.{Group};
 ghost use Rattle.typing.specs.Cells.{readback};
 ghost use Rattle.typing.specs.Posing.{entries_at, form_at};
-ghost use Rattle.typing.specs.Solutions.{Tidy};
-ghost use Rattle.typing.specs.Solve.{canonical};
+ghost use Rattle.typing.specs.Solve.{canonical, position};
 ghost use Rattle.typing.specs.Strings.{form_bytes};
 ghost use Rattle.typing.specs.Terms.{var};
-ghost use Rattle.inference.specs.Writings.{EntriesWithin, Writes, WritesAll, WroteForm, seen_of, slots_with, text_of};
 ghost use Rattle.inference.specs.Slots.{slots_of};
+ghost use Rattle.inference.specs.Writings.{Added, EntriesWithin, Writes, WritesAll, WroteForm, slots_with};
 
 use crate::entry::Entry;
-use crate::form_text::FormText;
-use crate::link::root;
-use crate::seen::Seen;
+use crate::graph::Graph;
+use crate::group::group;
+use crate::script::{FormText, Script};
+use arrayvec::ArrayVec;
 use typing::cell::Cell;
 
-// Writes a variable: its place among those that have appeared, after the tokens of the heads.
-fn write_variable(seen: &mut Seen, text: &mut FormText, cell: usize) -> Option<()>
-    requires fewer { length (seen_of seen.old) ≤ length (text_of text.old) }
-    ensures { Writes (var cell) (text_of text.old) (text_of text.new) (seen_of seen.old) (seen_of seen.new) result }
-{
-    let place = seen.place(cell);
-    text.push_group(5 + place as u32)?;
-    if place == seen.len() {
-        seen.push(cell);
-    }
-    Some(())
-}
+// There is no room for the rest of a form.
+#[derive(Clone, Copy, Debug, PartialEq, Eq)]
+pub struct TooLong;
 
-// Writes the term of a cell, followed to this depth.
-fn write_cell(
-    cells: &[Cell],
-    seen: &mut Seen,
-    text: &mut FormText,
-    depth: usize,
-    cell: usize,
-) -> Option<()>
-    requires tidy { Tidy (length cells.now) cells.now }
-    requires within { cell < length cells.now }
-    requires fewer { length (seen_of seen.old) ≤ length (text_of text.old) }
-    ensures { Writes (readback depth cells.now cell) (text_of text.old) (text_of text.new) (seen_of seen.old) (seen_of seen.new) result }
-{
-    if depth == 0 {
-        return write_variable(seen, text, cell);
-    }
-    let top = root(cells, cell);
-    let found = cells[top];
-    match found {
-        Cell::Free | Cell::Link(_) => write_variable(seen, text, top),
-        Cell::Atom(head) => text.push_group(head.token()),
-        Cell::Apply(function, argument) => {
-            write_cell(cells, seen, text, depth - 1, function)?;
-            write_cell(cells, seen, text, depth - 1, argument)
+impl Script {
+    fn new() -> Script
+        ensures text { result.text.items ≡ [] }
+        ensures seen { result.seen.items ≡ [] }
+    {
+        Script {
+            text: ArrayVec::new(),
+            seen: ArrayVec::new(),
         }
     }
-}
 
-// Writes entries one after the other: each name, and the type in its cell.
-fn write_entries(
-    cells: &[Cell],
-    seen: &mut Seen,
-    text: &mut FormText,
-    entries: &[Entry],
-) -> Option<()>
-    requires tidy { Tidy (length cells.now) cells.now }
-    requires within { EntriesWithin (length cells.now) entries.now }
-    requires fewer { length (seen_of seen.old) ≤ length (text_of text.old) }
-    ensures { WritesAll (entries_at cells.now (slots_of entries.now)) (text_of text.old) (text_of text.new) (seen_of seen.old) (seen_of seen.new) result }
-{
-    for entry in entries {
-        text.append(&entry.name.0)?;
-        write_cell(cells, seen, text, cells.len() + 1, entry.cell)?;
+    // Adds bytes, if there is room for all of them.
+    fn push(&mut self, bytes: &[u8]) -> Result<(), TooLong>
+        ensures { Added bytes.now self.old self.new result }
+    {
+        match self.text.try_extend_from_slice(bytes) {
+            Ok(()) => Ok(()),
+            Err(_) => Err(TooLong),
+        }
     }
-    Some(())
+
+    // Adds a group number, if there is room for it.
+    fn push_group(&mut self, value: u32) -> Result<(), TooLong>
+        requires { Group value }
+        ensures { Added (groups.group value) self.old self.new result }
+    {
+        self.push(&group(value))
+    }
+
+    // The place of a cell, which is the next one if it has not appeared.
+    fn place(&self, cell: usize) -> usize
+        ensures value { result ≡ position cell self.now.seen.items }
+        ensures bound { result ≤ 240 }
+    {
+        let listed = self.seen.iter().position(|seen| cell == *seen);
+        listed.unwrap_or(self.seen.len())
+    }
+
+    // Writes a variable: its place among those that have appeared, after the tokens of the heads.
+    fn write_variable(&mut self, cell: usize) -> Result<(), TooLong>
+        ensures { Writes (var cell) self.old self.new result }
+    {
+        let place = self.place(cell);
+        self.push_group(5 + place as u32)?;
+        if place == self.seen.len() {
+            self.seen.push(cell);
+        }
+        Ok(())
+    }
+
+    // Writes the term of a cell, followed to this depth.
+    fn write_cell(&mut self, graph: &Graph<'_>, depth: usize, cell: usize) -> Result<(), TooLong>
+        requires { cell < length graph.now.cells.now }
+        ensures { Writes (readback depth graph.now.cells.now cell) self.old self.new result }
+    {
+        if depth == 0 {
+            return self.write_variable(cell);
+        }
+        let top = graph.root(cell);
+        let found = graph.cells[top];
+        match found {
+            Cell::Free | Cell::Link(_) => self.write_variable(top),
+            Cell::Atom(head) => self.push_group(head.token()),
+            Cell::Apply(function, argument) => {
+                self.write_cell(graph, depth - 1, function)?;
+                self.write_cell(graph, depth - 1, argument)
+            }
+        }
+    }
+
+    // Writes entries one after the other: each name, and the type in its cell.
+    fn write_entries(&mut self, graph: &Graph<'_>, entries: &[Entry]) -> Result<(), TooLong>
+        requires { EntriesWithin (length graph.now.cells.now) entries.now }
+        ensures { WritesAll (entries_at graph.now.cells.now (slots_of entries.now)) self.old self.new result }
+    {
+        for entry in entries {
+            self.push(&entry.name.0)?;
+            self.write_cell(graph, graph.cells.len() + 1, entry.cell)?;
+        }
+        Ok(())
+    }
 }
 
 // Writes a form: how many entries there are, the entries, and the type in the cell of the result.
-pub(crate) fn write_form(cells: &[Cell], entries: &[Entry], type_cell: usize) -> Option<FormText>
-    requires tidy { Tidy (length cells.now) cells.now }
-    requires within { EntriesWithin (length cells.now) entries.now }
-    requires inside { type_cell < length cells.now }
+pub(crate) fn write_form(
+    graph: &Graph<'_>,
+    entries: &[Entry],
+    type_cell: usize,
+) -> Result<FormText, TooLong>
+    requires within { EntriesWithin (length graph.now.cells.now) entries.now }
+    requires inside { type_cell < length graph.now.cells.now }
     requires few { Group (length entries.now) }
-    ensures { WroteForm (form_bytes (canonical (form_at cells.now (slots_with entries.now type_cell)))) result }
+    ensures { WroteForm (form_bytes (canonical (form_at graph.now.cells.now (slots_with entries.now type_cell)))) result }
 {
-    let mut seen = Seen::new();
-    let mut text = FormText::new();
-    text.push_group(entries.len() as u32)?;
-    write_entries(cells, &mut seen, &mut text, entries)?;
-    write_cell(cells, &mut seen, &mut text, cells.len() + 1, type_cell)?;
-    Some(text)
+    let mut script = Script::new();
+    script.push_group(entries.len() as u32)?;
+    script.write_entries(graph, entries)?;
+    script.write_cell(graph, graph.cells.len() + 1, type_cell)?;
+    let Script { text, .. } = script;
+    Ok(text)
 }

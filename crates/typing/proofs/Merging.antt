@@ -64,11 +64,11 @@ meet_met σ i k e (apply a b) (apply a' b') rc rd = (
 )
 
 -- What a meeting leaves: a cell that is no link, in the place of the first, and at most two pairs.
-abbrev Left : ℕ → ℕ → Option (Cell × Pairs) → Type 0
+abbrev pub Left : ℕ → ℕ → Option (Cell × Pairs) → Type 0
 Left n i None = Unit {0}
 Left n i (Some m) = Proper n i m.0 × (weight m.0 ≡ 1) × Within n m.1 × (length m.1 ≤ 2)
 
-meet_left : (n i k : ℕ) (c d : Cell) → NotLink c → NotLink d → Proper n i c → Proper n k d → Left n i (meet c d)
+pub meet_left : (n i k : ℕ) (c d : Cell) → NotLink c → NotLink d → Proper n i c → Proper n k d → Left n i (meet c d)
 meet_left n i k free free rc rd pc pd = (tt, refl, tt, omega arith)
 meet_left n i k free (link j) rc rd pc pd = absurd rd
 meet_left n i k free (atom h) rc rd pc pd = (tt, refl, tt, omega arith)

@@ -2,8 +2,9 @@
 use crate::head::Head;
 
 // A variable, a link to a cell of a smaller number, a head, or one cell applied to another.
-#[derive(Clone, Copy)]
+#[derive(Clone, Copy, Default)]
 pub enum Cell {
+    #[default]
     Free,
     Link(usize),
     Atom(Head),

@@ -1,16 +1,25 @@
-use Rattle.std.proofs.Common.{sym, ap, ◌∙◌, arith}
-use Rattle.typing.specs.Constraints.{type_of}
-use Rattle.inference.specs.Slots.{slots_of}
-use Rattle.inference.proofs.Slotting.{type_here, type_past, type_none}
+use Rattle.std.proofs.Common.{◌≡◌, Option, sym, ap, ◌∙◌, rules, tests}
+use Rattle.std.specs.Borrow.{Bor}
+use Rattle.std.specs.List.{find}
+use Rattle.std.specs.Option.{option_map}
+use Rattle.std.proofs.lemmas.Iterator.{YieldsList-from_slice}
+use Rattle.std.proofs.lemmas.Iterator.Search.{find_from_yields_List}
+use Rattle.typing.specs.Forms.{same}
+use Rattle.inference.specs.Slots.{entries_of}
+use Rattle.inference.specs.declared.entry.Entry.{Entry}
+use Rattle.inference.proofs.Slotting.{cell_or, type_found}
 use Rattle.inference.proofs.entries.Entries.cell_of.Goals as goal
 
-pub returns-then-is_same : goal.returns-then-is_same
-returns-then-is_same c =
-    sym (type_here _ _ c.loop-i.i _ _ (omega arith) (sym c.is_same.ensures ∙ c.if-is_same.true)) ∙ c.loop-i.invariant ∙ ap (λ es. type_of c.args.name.0 (slots_of es) c.args.other) c.as_slice-listed.ensures.value
+pub returns-in-Some : goal.returns-in-Some
+returns-in-Some c =
+    let name = c.args.name.0 in
+    let es = entries_of c.args.self.now in
+    let found : option_map (λ (e : Bor Entry). e.now) c.find.result ≡ find (λ (e : Entry). same name e.name.0) es = find_from_yields_List (λ e. same name e.name.0) _ _ c.find.result c.find.ensures.ran (YieldsList-from_slice es cc) (λ x b q k. search (rules, tests)) in
+    ap (λ (r : Option (Bor Entry)). cell_or (option_map (λ e. e.now) r) c.args.other) (sym c.in-Some.is) ∙ ap (λ o. cell_or o c.args.other) found ∙ sym (type_found name es c.args.other)
 
-pub loop-i-preserved : goal.loop-i-preserved
-loop-i-preserved c = sym (type_past _ _ c.loop-i.i _ _ (omega arith) (sym c.is_same.ensures ∙ c.if-is_same.false)) ∙ c.loop-i.invariant
-
-pub returns : goal.returns
-returns c =
-    sym (type_none _ _ c.loop-i.i _ (omega arith)) ∙ c.loop-i.invariant ∙ ap (λ es. type_of c.args.name.0 (slots_of es) c.args.other) c.as_slice-listed.ensures.value
+pub returns-in-None : goal.returns-in-None
+returns-in-None c =
+    let name = c.args.name.0 in
+    let es = entries_of c.args.self.now in
+    let found : option_map (λ (e : Bor Entry). e.now) c.find.result ≡ find (λ (e : Entry). same name e.name.0) es = find_from_yields_List (λ e. same name e.name.0) _ _ c.find.result c.find.ensures.ran (YieldsList-from_slice es cc) (λ x b q k. search (rules, tests)) in
+    ap (λ (r : Option (Bor Entry)). cell_or (option_map (λ e. e.now) r) c.args.other) (sym c.in-None.is) ∙ ap (λ o. cell_or o c.args.other) found ∙ sym (type_found name es c.args.other)

@@ -1,4 +1,0 @@
-use Rattle.inference.proofs.form_text.FormText.+push_groups.Given as goal
-
-abbrev pub decreases-push_groups : goal.decreases-push_groups
-decreases-push_groups l = l.more
