@@ -2,22 +2,15 @@
 use Rattle.std.proofs.Common.{◌≡◌, ℕ, zero, suc, ◌+◌, ◌<◌, ◌≤◌, Bool, true, false, cond, eqb, List, [], ◌∷◌, ◌++◌, length, get_or, take, drop, Some, None, Option, not, sym, refl, ap, ◌∙◌, subst, ap₂, arith}
 use Rattle.std.specs.List.{find, insert as inserted}
 use Rattle.std.specs.List.Retain.{RetainsInTurn}
-use Rattle.std.proofs.lemmas.List.{append_assoc, drop_all, drop_more, take_more, nil_from_length}
+use Rattle.std.proofs.lemmas.List.{append_assoc, drop_all, drop_more, take_more}
 use Rattle.std.proofs.lemmas.List.Edits.{length-insert}
-use Rattle.std.proofs.lemmas.Bool.{ne_eqb}
+use Rattle.std.specs.Cmp.Lexicographic.{pointwise}
 use Rattle.typing.specs.Forms.{Name, same}
+use Rattle.typing.proofs.NamesOrder.{same_by_eq}
 use Rattle.typing.specs.Strings.{before}
 use Rattle.typing.specs.Constraints.{insert, type_of, without}
 use Rattle.inference.specs.Slots.{Slot, slot_of, slots_of, most_entries, Goes}
 use Rattle.inference.specs.declared.entry.Entry.{Entry}
-
--- the order of names
-pub same_none : (a b : List ℕ) → length a ≡ 0 → eqb (length b) 0 ≡ same a b
-same_none a b none = empty b ∙ ap (λ n. same n b) (sym (nil_from_length a none))
-  where
-    empty : (m : List ℕ) → eqb (length m) 0 ≡ same [] m
-    empty [] = refl
-    empty (y ∷ m) = ne_eqb (length (y ∷ m)) 0 (λ e. omega (arith, e))
 
 -- slots
 pub length_slots : (es : List Entry) → length (slots_of es) ≡ length es
@@ -114,21 +107,22 @@ abbrev pub cell_or : Option Entry → ℕ → ℕ
 cell_or None other = other
 cell_or (Some e) other = e.cell
 
-pub type_found : (n : Name) (es : List Entry) (other : ℕ) → type_of n (slots_of es) other ≡ cell_or (find (λ (e : Entry). same n e.name.0) es) other
+pub type_found : (n : Name) (es : List Entry) (other : ℕ) → type_of n (slots_of es) other ≡ cell_or (find (λ (e : Entry). pointwise eqb n e.name.0) es) other
 type_found n [] other = refl
-type_found n (e ∷ es) other = by_test (same n e.name.0) (type_found n es other)
+type_found n (e ∷ es) other =
+    ap (λ b. cond b e.cell (type_of n (slots_of es) other)) (sym (same_by_eq n e.name.0)) ∙ by_test (pointwise eqb n e.name.0) (type_found n es other)
   where
-    by_test : (b : Bool) → type_of n (slots_of es) other ≡ cell_or (find (λ (e : Entry). same n e.name.0) es) other → cond b e.cell (type_of n (slots_of es) other) ≡ cell_or (cond b (Some e) (find (λ (e : Entry). same n e.name.0) es)) other
+    by_test : (b : Bool) → type_of n (slots_of es) other ≡ cell_or (find (λ (e : Entry). pointwise eqb n e.name.0) es) other → cond b e.cell (type_of n (slots_of es) other) ≡ cell_or (cond b (Some e) (find (λ (e : Entry). pointwise eqb n e.name.0) es)) other
     by_test true later = refl
     by_test false later = later
 
 -- entries of other names are kept
-pub retained : {F : Type 0} (R : F → Entry → Bool → F → Entry → Type 0) (n : Name) (f : F) → ((e : Entry) (b : Bool) (t : F) (y : Entry) → R f e b t y → (t ≡ f) × (y ≡ e) × (b ≡ not (same n e.name.0))) → (es ys : List Entry) → RetainsInTurn R f es ys → slots_of ys ≡ without n (slots_of es)
+pub retained : {F : Type 0} (R : F → Entry → Bool → F → Entry → Type 0) (n : Name) (f : F) → ((e : Entry) (b : Bool) (t : F) (y : Entry) → R f e b t y → (t ≡ f) × (y ≡ e) × (b ≡ not (pointwise eqb n e.name.0))) → (es ys : List Entry) → RetainsInTurn R f es ys → slots_of ys ≡ without n (slots_of es)
 retained R n f says [] ys is = ap slots_of is
 retained R n f says (e ∷ es) ys (b, t, y, call, zs, rest, is) =
     let said = says e b t y call in
     let later = retained R n f says es zs (subst (λ u. RetainsInTurn R u es zs) said.0 rest) in
-    ap slots_of is ∙ ap₂ (λ (c : Bool) (z : Entry). slots_of (cond c (z ∷ zs) zs)) said.2 said.1 ∙ by_test (same n e.name.0) later
+    ap slots_of is ∙ ap₂ (λ (c : Bool) (z : Entry). slots_of (cond c (z ∷ zs) zs)) (said.2 ∙ ap not (same_by_eq n e.name.0)) said.1 ∙ by_test (same n e.name.0) later
   where
     by_test : (b : Bool) → slots_of zs ≡ without n (slots_of es) → slots_of (cond (not b) (e ∷ zs) zs) ≡ cond b (without n (slots_of es)) (slot_of e ∷ without n (slots_of es))
     by_test true later = later

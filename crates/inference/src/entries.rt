@@ -4,8 +4,8 @@ ghost use Rattle.typing.specs.Constraints.{type_of, without};
 ghost use Rattle.inference.specs.Slots.{Finds, Inserted, entries_of, slot_of, slots_of};
 
 use crate::entry::Entry;
-use crate::name_order::{is_before, is_same};
 use arrayvec::ArrayVec;
+use std::cmp::Ordering;
 use syntax::fault::Fault;
 use syntax::name::Name;
 
@@ -22,11 +22,10 @@ fn find(entries: &[Entry], added: Entry) -> Result<usize, usize>
     ensures { Finds added entries.now result }
 {
     for (i, here) in entries.iter().enumerate() {
-        if is_same(added.name, here.name) {
-            return Ok(i);
-        }
-        if is_before(added.name, here.name) {
-            return Err(i);
+        match added.name.cmp(&here.name) {
+            Ordering::Equal => return Ok(i),
+            Ordering::Less => return Err(i),
+            Ordering::Greater => {}
         }
     }
     Err(entries.len())
@@ -68,7 +67,7 @@ impl Entries {
         ensures value { result ≡ type_of name.0 (slots_of (entries_of self.old)) other }
     {
         let found = self.cell_of(name, other);
-        self.entries.retain(|here| !is_same(name, here.name));
+        self.entries.retain(|here| name != here.name);
         found
     }
 
@@ -76,7 +75,7 @@ impl Entries {
     fn cell_of(&self, name: Name, other: usize) -> usize
         ensures { result ≡ type_of name.0 (slots_of (entries_of self.now)) other }
     {
-        match self.entries.iter().find(|here| is_same(name, here.name)) {
+        match self.entries.iter().find(|here| name == here.name) {
             Some(here) => here.cell,
             None => other,
         }

@@ -11,7 +11,6 @@ mod group;
 mod join;
 mod lay;
 mod meeting;
-mod name_order;
 pub mod node;
 mod outcome;
 mod script;
