@@ -1,33 +1,28 @@
 -- Reading entries with the terms forgotten: one after the other. Assumes nothing.
-use Rattle.std.proofs.Common.{◌≡◌, ℕ, suc, ◌+◌, ◌-◌, ◌<◌, ◌≤◌, Bool, true, false, ◌&&◌, ltb, List, [], ◌∷◌, length, get_or, take, drop, Some, None, Option, sym, refl, ap, ◌∙◌, ap₂, arith}
-use Rattle.std.proofs.lemmas.List.{length-take, nil_from_length}
+use Rattle.std.proofs.Common.{◌≡◌, ℕ, suc, ◌+◌, ◌-◌, ◌<◌, ◌≤◌, Bool, true, false, ◌&&◌, ltb, List, [], ◌∷◌, length, take, drop, Some, None, Option, sym, refl, ap, ◌∙◌, ap₂, arith}
+use Rattle.std.proofs.lemmas.List.{length-take}
 use Rattle.std.proofs.lemmas.Bool.{ne_eqb}
+use Rattle.std.specs.Cmp.Lexicographic.{slice_partial_cmp}
+use Rattle.std.specs.Option.{option_partial_cmp}
+use Rattle.std.specs.Ordering.{nat_cmp, partial_lt}
 use Rattle.syntax.specs.Names.{is_name, letters, blank}
+use Rattle.syntax.specs.declared.name.Name as name
 use Rattle.typing.specs.Forms.{Name}
 use Rattle.typing.specs.Heads.{Sort, type}
 use Rattle.typing.specs.Parsing.{and_then, only_if, read_entries, read_terms, read_type}
 use Rattle.typing.specs.Strings.{before}
-use Rattle.forms.specs.Skips.{Behind, forget, is_next, skip_entries, skip_terms}
+use Rattle.typing.proofs.DerivedOrder.{less_before}
+use Rattle.forms.specs.Skips.{Behind, forget, is_next, letters_of, skip_entries, skip_terms}
 use Rattle.forms.proofs.Skipping.{then_assoc, then_cong}
 
-pub before_none : (a b : List ℕ) → length b ≡ 0 → false ≡ before a b
-before_none a b none = empty a ∙ ap (before a) (sym (nil_from_length b none))
+-- the derived order, where what is not there comes first
+pub after_last : (last : Option name.Name) (n : name.Name) (r : Bool) → true ≡ is_name n.0 → r ≡ partial_lt (option_partial_cmp (λ (x y : name.Name). slice_partial_cmp (λ a b. Some (nat_cmp a b)) x.0 y.0)) last (Some n) → r ≡ before (letters_of last) n.0
+after_last (Some m) n r valid is = less_before m.0 n.0 r is
+after_last None n r valid is = is ∙ some_letters n.0 valid
   where
-    empty : (n : List ℕ) → false ≡ before n []
-    empty [] = refl
-    empty (x ∷ n) = refl
-
-pub before_some : (a b : List ℕ) (y : ℕ) (bs : List ℕ) → length a ≡ 0 → b ≡ y ∷ bs → true ≡ before a b
-before_some a b y bs none some = sym (ap₂ before (nil_from_length a none) some)
-
--- four bytes, one by one
-pub four_bytes : (xs : List ℕ) → length xs ≡ 4 → get_or xs 0 0 ∷ get_or xs 1 0 ∷ get_or xs 2 0 ∷ get_or xs 3 0 ∷ [] ≡ xs
-four_bytes [] long = absurd (omega (arith, long))
-four_bytes (a ∷ []) long = absurd (omega (arith, long))
-four_bytes (a ∷ b ∷ []) long = absurd (omega (arith, long))
-four_bytes (a ∷ b ∷ c ∷ []) long = absurd (omega (arith, long))
-four_bytes (a ∷ b ∷ c ∷ d ∷ []) long = refl
-four_bytes (a ∷ b ∷ c ∷ d ∷ e ∷ xs) long = absurd (omega (arith, long))
+    some_letters : (bs : List ℕ) → true ≡ is_name bs → true ≡ before [] bs
+    some_letters [] valid = valid
+    some_letters (b ∷ bs) valid = refl
 
 -- fewer than four bytes are no name
 pub too_short : (last : Name) (bs : List ℕ) → length bs < 4 → is_next last bs ≡ false
@@ -84,12 +79,12 @@ module _ (n i : ℕ) (lt : i < n) (last : Name) (seen : List Sort) (bs : List �
   pub turn_unnamed : is_next last bs ≡ false → skip_entries (n - i) last seen bs ≡ None
   turn_unnamed wrong = one_left ∙ entry_unnamed (n - (i + 1)) last seen bs wrong
 
-  module _ (next : is_next last bs ≡ true) (behind : List ℕ) (at : behind ≡ drop 4 bs) where
-    pub turn_untyped : skip_terms (type ∷ []) seen behind ≡ None → skip_entries (n - i) last seen bs ≡ None
-    turn_untyped none = one_left ∙ entry_untyped (n - (i + 1)) last seen bs next (ap (skip_terms (type ∷ []) seen) (sym at) ∙ none)
+  module _ (next : is_next last bs ≡ true) (b : Behind) (same : b.0 ≡ seen) (at : b.1 ≡ drop 4 bs) where
+    pub turn_untyped : skip_terms (type ∷ []) b.0 b.1 ≡ None → skip_entries (n - i) last seen bs ≡ None
+    turn_untyped none = one_left ∙ entry_untyped (n - (i + 1)) last seen bs next (ap₂ (skip_terms (type ∷ [])) (sym same) (sym at) ∙ none)
 
-    pub turn_then : (name : Name) (seen₁ : List Sort) (rest : List ℕ) → name ≡ take 4 bs → skip_terms (type ∷ []) seen behind ≡ Some (seen₁, rest) → skip_entries (n - i) last seen bs ≡ skip_entries (n - (i + 1)) name seen₁ rest
-    turn_then name seen₁ rest is some = one_left ∙ entry_then (n - (i + 1)) last seen bs next seen₁ rest (ap (skip_terms (type ∷ []) seen) (sym at) ∙ some) ∙ ap (λ m. skip_entries (n - (i + 1)) m seen₁ rest) (sym is)
+    pub turn_then : (name : Name) (b' : Behind) → name ≡ take 4 bs → skip_terms (type ∷ []) b.0 b.1 ≡ Some b' → skip_entries (n - i) last seen bs ≡ skip_entries (n - (i + 1)) name b'.0 b'.1
+    turn_then name b' is some = one_left ∙ entry_then (n - (i + 1)) last seen bs next b'.0 b'.1 (ap₂ (skip_terms (type ∷ [])) (sym same) (sym at) ∙ some) ∙ ap (λ m. skip_entries (n - (i + 1)) m b'.0 b'.1) (sym is)
 
 pub turns_done : (n i : ℕ) (last : Name) (seen : List Sort) (bs : List ℕ) → n ≤ i → skip_entries (n - i) last seen bs ≡ Some (seen, bs)
 turns_done n i last seen bs le = let e : n - i ≡ 0 = omega (arith, le) in ap (λ k. skip_entries k last seen bs) e ∙ entries_none last seen bs

@@ -1,5 +1,4 @@
 pub mod Skipping
-pub mod VariablesMet
 pub mod Tokens
 pub mod EntrySteps
 pub mod FormSteps

@@ -1,14 +1,15 @@
 -- Reading terms with the terms forgotten: one term after the other, whatever the fuel. Assumes nothing.
-use Rattle.std.proofs.Common.{◌≡◌, ℕ, zero, suc, ◌+◌, ◌-◌, ◌*◌, ◌<◌, ◌≤◌, Bool, true, false, cond, ltb, ◌⊎◌, List, [], ◌∷◌, length, replicate, Some, None, Ok, Err, Option, Result, sym, refl, ap, ◌∙◌, subst, inl, inr, arith, Bor}
+use Rattle.std.proofs.Common.{◌≡◌, ℕ, zero, suc, ◌+◌, ◌-◌, ◌*◌, ◌<◌, ◌≤◌, Bool, true, false, cond, ltb, List, [], ◌∷◌, length, replicate, Some, None, Ok, Err, Option, Result, sym, refl, ap, ◌∙◌, subst, arith}
 use Rattle.syntax.specs.declared.fault.Fault.{Fault}
-use Rattle.typing.specs.Heads.{Sort, type, place, result_of, parts_of, head_of}
+use Rattle.typing.specs.Heads.{Sort, result_of, parts_of, head_of, head_or, meaning_of}
 use Rattle.typing.specs.Parsing.{and_then, only_if, read_group, same_sort, meet_variable, Read, read_head, read_terms}
 use Rattle.typing.specs.Terms.{Term, var, head, applied}
 use Rattle.typing.specs.declared.head.Head.{Head}
-use Rattle.typing.specs.declared.head.Head.TheVariants.{Num, Fun, Rec, Absent, Present}
+use Rattle.typing.specs.declared.head.Token.{Token}
+use Rattle.typing.specs.declared.head.Token.TheVariants.{Head as OfHead}
 use Rattle.typing.proofs.GroupReading.{then_some, if_some, pair_parts}
 use Rattle.typing.proofs.TermsRead.{triple_parts}
-use Rattle.forms.specs.Skips.{Behind, Shorter, Skipped, forget, skip_terms}
+use Rattle.forms.specs.Skips.{Behind, Met, Skipped, forget, skip_terms, skip_token}
 
 pub then_cong : {A B : Type 0} (o : Option A) (f g : A → Option B) → ((a : A) → o ≡ Some a → f a ≡ g a) → and_then o f ≡ and_then o g
 then_cong None f g each = refl
@@ -90,11 +91,6 @@ fuel_same (suc f) (suc g) (s ∷ ss) seen bs lf lg =
     one token cs less ih =
         ap (λ x. and_then x (behind f)) (heads (head_of token) token cs less ih) ∙ then_cong (read_head 4 (head_of token) token s seen cs (read_terms g 4)) (behind f) (behind g) (λ t is. let less' = head_shorter g (terms_shorter g) (head_of token) token s seen cs t.0 t.1 t.2 is in ap (λ x. and_then x (λ r. Some (t.0 ∷ r.0, r.1, r.2))) (ih ss t.1 t.2 (omega (arith, less', less, lf)) (omega (arith, less', less, lg))))
 
--- one term behind its token
-unfoldable pub skip_head : Option Head → ℕ → Sort → List Sort → List ℕ → Option Behind
-skip_head None token s seen bs = and_then (meet_variable s (token - 5) seen) (λ now. Some (now, bs))
-skip_head (Some h) token s seen bs = only_if (same_sort (result_of h) s) (skip_terms (parts_of 4 h) seen bs)
-
 pub skip_nil : (seen : List Sort) (bs : List ℕ) → skip_terms [] seen bs ≡ Some (seen, bs)
 unfolding skip_terms
 skip_nil seen bs = refl
@@ -115,23 +111,23 @@ module _ (s : Sort) (seen : List Sort) (bs : List ℕ) where
       each token cs less =
           then_assoc (head_at token cs) _ _ ∙ then_cong (head_at token cs) _ _ (λ t is. let less' = head_shorter (length bs) (terms_shorter (length bs)) (head_of token) token s seen cs t.0 t.1 t.2 is in then_assoc (read_terms (length bs) 4 ss t.1 t.2) _ _ ∙ ap forget (fuel_same (length bs) (length t.2) ss t.1 t.2 (omega (arith, less', less)) (omega arith)))
 
-  heads : (n token : ℕ) (o : Option Head) (cs : List ℕ) → length cs ≤ n → and_then (read_head 4 o token s seen cs (read_terms n 4)) (λ t. skip_terms [] t.1 t.2) ≡ skip_head o token s seen cs
-  unfolding skip_terms skip_head
+  heads : (n token : ℕ) (o : Option Head) (cs : List ℕ) → length cs ≤ n → and_then (read_head 4 o token s seen cs (read_terms n 4)) (λ t. skip_terms [] t.1 t.2) ≡ skip_token (head_or token o) s seen cs
+  unfolding skip_terms
   heads n token None cs le = then_assoc (meet_variable s (token - 5) seen) _ _
   heads n token (Some h) cs le =
       if_then (same_sort (result_of h) s) _ _ ∙ ap (only_if (same_sort (result_of h) s)) (then_assoc (read_terms n 4 (parts_of 4 h) seen cs) _ _ ∙ ap forget (fuel_same n (length cs) (parts_of 4 h) seen cs le (omega arith)))
 
   -- a term is its token, and then its parts
-  skip_one : skip_terms (s ∷ []) seen bs ≡ and_then (read_group 2 bs) (λ p. skip_head (head_of p.0) p.0 s seen p.1)
+  skip_one : skip_terms (s ∷ []) seen bs ≡ and_then (read_group 2 bs) (λ p. skip_token (meaning_of p.0) s seen p.1)
   unfolding term
   skip_one =
       unfold_terms [] ∙ then_assoc (read_group 2 bs) _ _ ∙ then_cong (read_group 2 bs) _ _ (λ p is. let less = group_shorter 2 bs p.0 p.1 is in heads (length bs) p.0 (head_of p.0) p.1 (omega (arith, less)))
 
   pub skip_no_token : read_group 2 bs ≡ None → skip_terms (s ∷ []) seen bs ≡ None
-  skip_no_token is = skip_one ∙ ap (λ o. and_then o (λ p. skip_head (head_of p.0) p.0 s seen p.1)) is
+  skip_no_token is = skip_one ∙ ap (λ o. and_then o (λ p. skip_token (meaning_of p.0) s seen p.1)) is
 
-  pub skip_token : (token : ℕ) (rest : List ℕ) (o : Option Head) → read_group 2 bs ≡ Some (token, rest) → head_of token ≡ o → skip_terms (s ∷ []) seen bs ≡ skip_head o token s seen rest
-  skip_token token rest o is head-is = skip_one ∙ ap (λ x. and_then x (λ p. skip_head (head_of p.0) p.0 s seen p.1)) is ∙ ap (λ h. skip_head h token s seen rest) head-is
+  pub skip_some_token : (n : ℕ) (rest : List ℕ) → read_group 2 bs ≡ Some (n, rest) → skip_terms (s ∷ []) seen bs ≡ skip_token (meaning_of n) s seen rest
+  skip_some_token n rest is = skip_one ∙ ap (λ o. and_then o (λ p. skip_token (meaning_of p.0) s seen p.1)) is
 
   -- terms stand one behind the other
   pub skip_cons : (ss : List Sort) → skip_terms (s ∷ ss) seen bs ≡ and_then (skip_terms (s ∷ []) seen bs) (λ p. skip_terms ss p.0 p.1)
@@ -143,26 +139,10 @@ module _ (s : Sort) (seen : List Sort) (bs : List ℕ) where
   pub skip_stop : (ss : List Sort) → skip_terms (s ∷ []) seen bs ≡ None → skip_terms (s ∷ ss) seen bs ≡ None
   skip_stop ss is = skip_cons ss ∙ ap (λ o. and_then o (λ p. skip_terms ss p.0 p.1)) is
 
-  module _ (token : ℕ) (rest : List ℕ) (is : read_group 2 bs ≡ Some (token, rest)) where
-    pub at_parts : (h : Head) → Some h ≡ head_of token → same_sort (result_of h) s ≡ true → skip_terms (s ∷ []) seen bs ≡ skip_terms (parts_of 4 h) seen rest
-    unfolding skip_head
-    at_parts h at fits = skip_token token rest (Some h) is (sym at) ∙ ap (λ b. only_if b (skip_terms (parts_of 4 h) seen rest)) fits
-
-    pub at_leaf : (h : Head) → Some h ≡ head_of token → same_sort (result_of h) s ≡ true → parts_of 4 h ≡ [] → skip_terms (s ∷ []) seen bs ≡ Some (seen, rest)
-    at_leaf h at fits none = at_parts h at fits ∙ ap (λ ss. skip_terms ss seen rest) none ∙ skip_nil seen rest
-
-    -- a head of the other sort
-    pub at_wrong : (h : Head) → Some h ≡ head_of token → same_sort (result_of h) s ≡ false → skip_terms (s ∷ []) seen bs ≡ None
-    unfolding skip_head
-    at_wrong h at other = skip_token token rest (Some h) is (sym at) ∙ ap (λ b. only_if b (skip_terms (parts_of 4 h) seen rest)) other
-
-    pub at_variable : (seen' : List Sort) → None ≡ head_of token → meet_variable s (token - 5) seen ≡ Some seen' → skip_terms (s ∷ []) seen bs ≡ Some (seen', rest)
-    unfolding skip_head
-    at_variable seen' at met = skip_token token rest None is (sym at) ∙ ap (λ o. and_then o (λ now. Some (now, rest))) met
-
-    pub at_unmet : None ≡ head_of token → meet_variable s (token - 5) seen ≡ None → skip_terms (s ∷ []) seen bs ≡ None
-    unfolding skip_head
-    at_unmet at met = skip_token token rest None is (sym at) ∙ ap (λ o. and_then o (λ now. Some (now, rest))) met
+-- a variable is the whole of a term
+pub skipped_variable : (o : Option Behind) (m : Option (List Sort)) (bs : List ℕ) (b : Behind) (r : Result (Unit {0}) Fault) → o ≡ and_then m (λ now. Some (now, bs)) → Met m bs b r → Skipped o b r
+skipped_variable o m bs b (Ok u) is met = is ∙ ap (λ x. and_then x (λ now. Some (now, bs))) met.0 ∙ ap (λ rest. Some (b.0, rest)) (sym met.1)
+skipped_variable o m bs b (Err fault) is met = (met.0, is ∙ ap (λ x. and_then x (λ now. Some (now, bs))) met.1)
 
 -- places still to be read, of which there are some
 pub places_left : {A : Type 0} (a : A) (n i : ℕ) → i < n → replicate (n - i) a ≡ a ∷ replicate (n - (i + 1)) a
@@ -171,20 +151,13 @@ places_left a n i lt = let e : n - i ≡ suc (n - (i + 1)) = omega (arith, lt) i
 pub no_places_left : {A : Type 0} (a : A) (n i : ℕ) → n ≤ i → replicate (n - i) a ≡ []
 no_places_left a n i le = let e : n - i ≡ 0 = omega (arith, le) in ap (λ k. replicate k a) e
 
--- what a reader leaves of shorter bytes
-pub shorter_more : (met₀ met met' : ℕ) (bs₀ bs : List ℕ) (r : Result (Bor (List ℕ)) Fault) → length bs ≤ length bs₀ → met + length bs ≤ met₀ + length bs₀ → Shorter met bs met' r → Shorter met₀ bs₀ met' r
-shorter_more met₀ met met' bs₀ bs (Ok rest) le room s = (omega (arith, le, s.0), omega (arith, room, s.1))
-shorter_more met₀ met met' bs₀ bs (Err fault) le room s = tt
+pub skipped_at : (o p : Option Behind) (b : Behind) (r : Result (Unit {0}) Fault) → o ≡ p → Skipped p b r → Skipped o b r
+skipped_at o p b r is s = subst (λ q. Skipped q b r) (sym is) s
 
-pub skipped_at : (o p : Option Behind) (seen : List Sort) (r : Result (Bor (List ℕ)) Fault) → o ≡ p → Skipped p seen r → Skipped o seen r
-skipped_at o p seen r is s = subst (λ q. Skipped q seen r) (sym is) s
+pub took_token : (b b' : Behind) (n : ℕ) (t : Token) → read_group 2 b.1 ≡ Some (n, b'.1) → b'.0 ≡ b.0 → t ≡ meaning_of n → (s : Sort) → skip_terms (s ∷ []) b.0 b.1 ≡ skip_token t s b'.0 b'.1
+took_token b b' n t is same means s =
+    skip_some_token s b.0 b.1 n b'.1 is ∙ ap (λ x. skip_token x s b.0 b'.1) (sym means) ∙ ap (λ seen. skip_token t s seen b'.1) (sym same)
 
--- heads of types where a place is wanted, and the other way round
-pub type_head : (h : Head) → (h ≡ Num) ⊎ ((h ≡ Fun) ⊎ (h ≡ Rec)) → same_sort (result_of h) place ≡ false
-type_head h (inl is) = ap (λ k. same_sort (result_of k) place) is
-type_head h (inr (inl is)) = ap (λ k. same_sort (result_of k) place) is
-type_head h (inr (inr is)) = ap (λ k. same_sort (result_of k) place) is
-
-pub place_head : (h : Head) → (h ≡ Absent) ⊎ (h ≡ Present) → same_sort (result_of h) type ≡ false
-place_head h (inl is) = ap (λ k. same_sort (result_of k) type) is
-place_head h (inr is) = ap (λ k. same_sort (result_of k) type) is
+pub took_head : (b b' : Behind) (t : Token) → ((s : Sort) → skip_terms (s ∷ []) b.0 b.1 ≡ skip_token t s b'.0 b'.1) → (h h' : Head) → t ≡ OfHead h → h ≡ h' → (s : Sort) → skip_terms (s ∷ []) b.0 b.1 ≡ skip_token (OfHead h') s b'.0 b'.1
+took_head b b' t took h h' is same s =
+    took s ∙ ap (λ x. skip_token x s b'.0 b'.1) is ∙ ap (λ x. skip_token (OfHead x) s b'.0 b'.1) same

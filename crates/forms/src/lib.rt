@@ -2,8 +2,9 @@
 #![tactic(auto)]
 
 mod entries;
+pub mod number;
 pub mod outline;
-mod shape;
+mod reader;
+mod status;
 mod term;
 pub mod theorems;
-mod variables;

@@ -1,57 +1,63 @@
-// Reading a typing string: its status and counts, and where its form stands.
+// Reading a typing string: its counts, and where its form stands.
 ghost use Rattle.std.specs.Prelude.{◌≡◌};
 ghost use Rattle.typing.specs.Parsing.{is_lawful, read_typing};
 ghost use Rattle.forms.specs.Outlines.{Tallied, outlined};
 
-use crate::shape::read_status;
-use crate::term::read_number;
+use crate::number::read_number;
+use crate::status::read_status;
 use syntax::fault::Fault;
 
 // Counts go no further than this.
-const MOST: u32 = 16_383;
+pub const MAX_COUNT: u32 = 16_383;
 
-#[derive(Clone, Copy)]
-pub enum Status {
-    Formed,
+// How many nodes of a subtree are clashes, overlong, and holes.
+#[derive(Clone, Copy, Debug, Default, PartialEq, Eq)]
+pub struct Tally {
+    pub clashes: u32,
+    pub overlongs: u32,
+    pub holes: u32,
+}
+
+// Why a subtree has no form: no form fits it, or its form is too long.
+#[derive(Clone, Copy, Debug, PartialEq, Eq)]
+pub enum Untyped {
     Clashed,
     Overlong,
 }
 
-// The status and the counts of a typing string; of its form how many names it lists and how many
-// variables it has, and where in the string its first entry and its type begin. Where there is no
-// form, these are 0 and the end of the string.
-#[derive(Clone, Copy)]
-pub struct Outline {
-    pub status: Status,
-    pub clashes: u32,
-    pub overlongs: u32,
-    pub holes: u32,
+// How many names a form lists and how many variables it has, and where in its string the first entry
+// and the type begin.
+#[derive(Clone, Copy, Debug, PartialEq, Eq)]
+pub struct FormOutline {
     pub open_names: usize,
     pub variables: usize,
     pub entries_at: usize,
     pub type_at: usize,
 }
 
+// What a typing string tells without its terms: the counts, and its form if it has one.
+#[derive(Clone, Copy, Debug, PartialEq, Eq)]
+pub struct Outline {
+    pub tally: Tally,
+    pub form: Result<FormOutline, Untyped>,
+}
+
 // The outline of a typing string; any other string is refused.
 pub fn read_typing(text: &[u8]) -> Result<Outline, Fault>
     ensures { result ≡ outlined (read_typing 4 text.now) }
 {
-    let Some((status, counts)) = text.split_first() else {
-        return Err(Fault::Unlawful);
-    };
-    let (clashes, rest) = read_count(counts)?;
+    let (status, rest) = text.split_first().ok_or(Fault::Unlawful)?;
+    let (clashes, rest) = read_count(rest)?;
     let (overlongs, rest) = read_count(rest)?;
     let (holes, rest) = read_count(rest)?;
-    let shape = read_status(*status, rest)?;
+    let form = read_status(*status, rest, text.len())?;
     Ok(Outline {
-        status: shape.status,
-        clashes,
-        overlongs,
-        holes,
-        open_names: shape.open_names,
-        variables: shape.variables,
-        entries_at: text.len() - shape.from_entries,
-        type_at: text.len() - shape.from_type,
+        tally: Tally {
+            clashes,
+            overlongs,
+            holes,
+        },
+        form,
     })
 }
 
@@ -67,7 +73,7 @@ fn read_count(bytes: &[u8]) -> Result<(u32, &[u8]), Fault>
     ensures { Tallied bytes.now result }
 {
     let (count, rest) = read_number(bytes)?;
-    if count > MOST {
+    if count > MAX_COUNT {
         return Err(Fault::Unlawful);
     }
     Ok((count, rest))

@@ -1,92 +1,57 @@
-// Types and places in prefix order: readers that go past one, and meet its variables.
-ghost use Rattle.std.specs.Prelude.{◌+◌, ◌-◌, ◌<◌, ◌≤◌, [], ◌∷◌, length};
+// Types and places in prefix order: a reader goes past one, and meets its variables.
+ghost use Rattle.std.specs.Prelude.{[], ◌∷◌};
 ghost use Rattle.typing.specs.Heads.{type, place};
-ghost use Rattle.typing.specs.Parsing.{meet_variable};
-ghost use Rattle.forms.specs.Skips.{Counted, Met, Shorter, Skipped, seen_of, skip_terms};
+ghost use Rattle.forms.specs.Skips.{Shorter, Skipped, TookToken, skip_terms};
 
-use crate::variables::{Sort, Variables};
-use layout::group::read_group;
+use crate::reader::{Reader, Sort};
 use syntax::fault::Fault;
-use typing::head::Head;
+use typing::head::{Head, Token};
 
 // How many places a record has.
 const LABELS: usize = 4;
 
-// The token of the first variable.
-const FIRST_VARIABLE: u32 = 5;
-
-// A group number off the front of a string.
-pub(crate) fn read_number(bytes: &[u8]) -> Result<(u32, &[u8]), Fault>
-    ensures { Counted bytes.now result }
-{
-    match read_group(bytes) {
-        Some(found) => Ok(found),
-        None => Err(Fault::Unlawful),
+impl Reader<'_> {
+    // The token of the term at the front.
+    fn token(&mut self) -> Result<Token, Fault>
+        ensures { TookToken self.old self.new result }
+    {
+        Ok(Token::from(self.number()?))
     }
-}
 
-// The bytes behind the type that stands at the front.
-#[cycle(reads_term)]
-pub(crate) fn read_type<'a>(bytes: &'a [u8], variables: &mut Variables) -> Result<&'a [u8], Fault>
-    requires { variables.old.len + length bytes.now ≤ 240 }
-    ensures value { Skipped (skip_terms (type ∷ []) (seen_of variables.old) bytes.now) (seen_of variables.new) result }
-    ensures room { Shorter variables.old.len bytes.now variables.new.len result }
-{
-    let (token, rest) = read_number(bytes)?;
-    let Some(head) = Head::from_token(token) else {
-        meet_type(variables, token)?;
-        return Ok(rest);
-    };
-    match head {
-        Head::Num => Ok(rest),
-        Head::Fun => {
-            let rest = read_type(rest, variables)?;
-            read_type(rest, variables)
-        }
-        Head::Rec => {
-            let mut rest = rest;
-            for _label in 0..LABELS {
-                rest = read_place(rest, variables)?;
+    // Goes past the type at the front.
+    #[cycle(reads_term)]
+    pub(crate) fn read_type(&mut self) -> Result<(), Fault>
+        ensures value { Skipped (skip_terms (type ∷ []) self.old.0 self.old.1) self.new result }
+        ensures shorter { Shorter self.old self.new result }
+    {
+        match self.token()? {
+            Token::Variable(k) => self.meet(Sort::Type, k),
+            Token::Head(Head::Num) => Ok(()),
+            Token::Head(Head::Fun) => {
+                self.read_type()?;
+                self.read_type()
             }
-            Ok(rest)
+            Token::Head(Head::Rec) => {
+                for _label in 0..LABELS {
+                    self.read_place()?;
+                }
+                Ok(())
+            }
+            Token::Head(Head::Absent | Head::Present) => Err(Fault::Unlawful),
         }
-        Head::Absent | Head::Present => Err(Fault::Unlawful),
     }
-}
 
-// The bytes behind the place that stands at the front.
-#[cycle(reads_term)]
-fn read_place<'a>(bytes: &'a [u8], variables: &mut Variables) -> Result<&'a [u8], Fault>
-    requires { variables.old.len + length bytes.now ≤ 240 }
-    ensures value { Skipped (skip_terms (place ∷ []) (seen_of variables.old) bytes.now) (seen_of variables.new) result }
-    ensures room { Shorter variables.old.len bytes.now variables.new.len result }
-{
-    let (token, rest) = read_number(bytes)?;
-    let Some(head) = Head::from_token(token) else {
-        meet_place(variables, token)?;
-        return Ok(rest);
-    };
-    match head {
-        Head::Absent => Ok(rest),
-        Head::Present => read_type(rest, variables),
-        Head::Num | Head::Fun | Head::Rec => Err(Fault::Unlawful),
+    // Goes past the place at the front.
+    #[cycle(reads_term)]
+    fn read_place(&mut self) -> Result<(), Fault>
+        ensures value { Skipped (skip_terms (place ∷ []) self.old.0 self.old.1) self.new result }
+        ensures shorter { Shorter self.old self.new result }
+    {
+        match self.token()? {
+            Token::Variable(k) => self.meet(Sort::Place, k),
+            Token::Head(Head::Absent) => Ok(()),
+            Token::Head(Head::Present) => self.read_type(),
+            Token::Head(Head::Num | Head::Fun | Head::Rec) => Err(Fault::Unlawful),
+        }
     }
-}
-
-// The variable of this token, where a type is wanted.
-fn meet_type(variables: &mut Variables, token: u32) -> Result<(), Fault>
-    requires { (variables.old.len < 240) × (5 ≤ token) }
-    ensures value { Met (meet_variable type (token - 5) (seen_of variables.old)) (seen_of variables.new) result }
-    ensures len { variables.new.len ≤ variables.old.len + 1 }
-{
-    variables.meet(Sort::Type, token - FIRST_VARIABLE)
-}
-
-// The same where a place is wanted.
-fn meet_place(variables: &mut Variables, token: u32) -> Result<(), Fault>
-    requires { (variables.old.len < 240) × (5 ≤ token) }
-    ensures value { Met (meet_variable place (token - 5) (seen_of variables.old)) (seen_of variables.new) result }
-    ensures len { variables.new.len ≤ variables.old.len + 1 }
-{
-    variables.meet(Sort::Place, token - FIRST_VARIABLE)
 }

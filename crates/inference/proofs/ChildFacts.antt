@@ -3,15 +3,16 @@ use Rattle.std.proofs.Common.{◌≡◌, ℕ, suc, ◌+◌, ◌<◌, ◌≤◌, 
 use Rattle.std.proofs.lemmas.Bool.{and_from, lt-ltb}
 use Rattle.layout.specs.Groups.{group}
 use Rattle.syntax.specs.declared.fault.Fault.{Fault}
-use Rattle.forms.specs.Outlines.{outlined, outline_of, listed, status_of, width_of}
+use Rattle.forms.specs.Outlines.{entries_offset, outlined, outline_of}
+use Rattle.forms.specs.Outlines as outlines
+use Rattle.forms.specs.declared.outline.FormOutline.{FormOutline}
 use Rattle.forms.specs.declared.outline.Outline.{Outline}
-use Rattle.forms.specs.declared.outline.Status.TheVariants.{Formed, Clashed, Overlong}
 use Rattle.forms.proofs.Outlining.{form_stands, string_long}
 use Rattle.typing.specs.Constraints.{above, width}
 use Rattle.typing.specs.Forms.{Name, Form, entry_variables, form_variables}
 use Rattle.typing.specs.Heads.{Sort, type}
 use Rattle.typing.specs.Parsing.{read_typing}
-use Rattle.typing.specs.Strings.{Bytes, Status, formed, clashed, overlong, Typing, Good, GoodStatus, GoodTyping, Numbered, Rising, Types, entries_bytes, term_bytes}
+use Rattle.typing.specs.Strings.{Bytes, Status, formed, clashed, overlong, Typing, Good, GoodStatus, Numbered, Rising, Types, entries_bytes, term_bytes}
 use Rattle.typing.specs.Terms.{Term, var, head, ◌·◌, Sorted, variables}
 use Rattle.typing.specs.Typings.{form_of}
 use Rattle.typing.proofs.StringReading.{name_long, numbered_small, variables_long, entry_variables_long}
@@ -68,42 +69,41 @@ pub outlined_from : (o : Option Typing) (x : Outline) → outlined o ≡ Ok x �
 outlined_from None x is = absurd (let z : ◌≡◌ {A = ℕ} 0 1 = cc in omega (arith, z))
 outlined_from (Some T) x is = (T, refl, cc)
 
-width_by_lem : (s : Status) → width_by (status_of s) (width_of s) ≡ width (form_of s)
-width_by_lem (formed F) = refl
-width_by_lem clashed = refl
-width_by_lem overlong = refl
+width_by_lem : (T : Typing) (s : Status) → width_by (outlines.form_of T s) ≡ width (form_of s)
+width_by_lem T (formed F) = refl
+width_by_lem T clashed = refl
+width_by_lem T overlong = refl
 
 pub width_in_lem : (T : Typing) → width_in (outline_of T) ≡ width (form_of T.status)
-width_in_lem T = width_by_lem T.status
+width_in_lem T = width_by_lem T T.status
 
 module _ (text : List ℕ) (x : Outline) (bytes : Bytes text) (is : outlined (read_typing 4 text) ≡ Ok x) where
-  pub at_within : x.entries_at ≤ length text
-  at_within =
-      let f = outlined_from (read_typing 4 text) x is in
-      omega (arith, ap (λ (y : Outline). y.entries_at) f.2, ap length (typing_read 4 text f.0 bytes f.1).1, string_long f.0)
-
   outline_of_lem : (T : Typing) → read_typing 4 text ≡ Some T → outline_of T ≡ x
   outline_of_lem T read = let e : Ok (outline_of T) ≡ Ok x = sym (ap outlined read) ∙ is in cc
 
-  -- a child with a form
-  pub child_formed : (base : ℕ) (S S' : State) (r : Result ℕ Fault) (from : List ℕ) → from ≡ drop x.entries_at text → x.status ≡ Formed → AddsForm base x.open_names from S S' r → AddsChild base text S S' r
-  child_formed base S S' r from from_is formed-is adds T read = by_status T.status refl
+  -- what the outline says of a form
+  form_outlined : (T : Typing) → read_typing 4 text ≡ Some T → (f : FormOutline) → x.form ≡ Ok f → (F : Form) × (T.status ≡ formed F) × (f.open_names ≡ length F.entries) × (f.entries_at ≡ entries_offset T F)
+  form_outlined T read f is_form = by_status T.status refl (ap (λ (y : Outline). y.form) (outline_of_lem T read) ∙ is_form)
     where
-      same : outline_of T ≡ x
-      same = outline_of_lem T read
+      by_status : (s : Status) → T.status ≡ s → outlines.form_of T s ≡ Ok f → (F : Form) × (T.status ≡ formed F) × (f.open_names ≡ length F.entries) × (f.entries_at ≡ entries_offset T F)
+      by_status (formed F) status e = (F, status, cc, cc)
+      by_status clashed status e = absurd (let z : ◌≡◌ {A = ℕ} 0 1 = cc in omega (arith, z))
+      by_status overlong status e = absurd (let z : ◌≡◌ {A = ℕ} 0 1 = cc in omega (arith, z))
 
-      good : GoodTyping 4 T
-      good = (typing_read 4 text T bytes read).0
+  pub at_within : (f : FormOutline) → x.form ≡ Ok f → f.entries_at ≤ length text
+  at_within f is_form =
+      let T = outlined_from (read_typing 4 text) x is in
+      let F = form_outlined T.0 T.1 f is_form in
+      omega (arith, F.3, ap length (typing_read 4 text T.0 bytes T.1).1, string_long T.0 F.0 F.1)
 
-      by_status : (s : Status) → T.status ≡ s → DoesIf (add_form base (form_of T.status) S) S' r
-      by_status (formed F) status =
-          let good_f : Good 4 F = subst (GoodStatus 4) status good.status in
-          let legible = good_legible F good_f in
-          let count : length F.entries ≡ x.open_names = sym (ap listed status) ∙ ap (λ (y : Outline). y.open_names) same in
-          let at : from ≡ entries_bytes F.entries ++ term_bytes F.result = from_is ∙ ap (λ (y : Outline). drop y.entries_at text) (sym same) ∙ (form_stands text T F bytes read status).0 in
-          subst (λ s. DoesIf (add_form base (form_of s) S) S' r) (sym status) (adds F count legible.0 legible.1 at)
-      by_status clashed status = absurd (let e : Clashed ≡ Formed = sym (ap status_of status) ∙ ap (λ (y : Outline). y.status) same ∙ formed-is in let z : ◌≡◌ {A = ℕ} 0 1 = cc in omega (arith, z))
-      by_status overlong status = absurd (let e : Overlong ≡ Formed = sym (ap status_of status) ∙ ap (λ (y : Outline). y.status) same ∙ formed-is in let z : ◌≡◌ {A = ℕ} 0 1 = cc in omega (arith, z))
+  -- a child with a form
+  pub child_formed : (base : ℕ) (S S' : State) (r : Result ℕ Fault) (from : List ℕ) (f : FormOutline) → from ≡ drop f.entries_at text → x.form ≡ Ok f → AddsForm base f.open_names from S S' r → AddsChild base text S S' r
+  child_formed base S S' r from f from_is is_form adds T read =
+      let F = form_outlined T read f is_form in
+      let good : Good 4 F.0 = subst (GoodStatus 4) F.1 (typing_read 4 text T bytes read).0.status in
+      let legible = good_legible F.0 good in
+      let at : from ≡ entries_bytes F.0.entries ++ term_bytes F.0.result = from_is ∙ ap (λ n. drop n text) F.3 ∙ (form_stands text T F.0 bytes read F.1).0 in
+      subst (λ s. DoesIf (add_form base (form_of s) S) S' r) (sym F.1) (adds F.0 (sym F.2) legible.0 legible.1 at)
 
   pub width_small : width_in x ≤ 240
   width_small =

@@ -3,18 +3,21 @@ use Rattle.std.proofs.Common.{◌≡◌, ℕ, suc, ◌+◌, ◌-◌, ◌≤◌, 
 use Rattle.std.proofs.lemmas.List.{append_assoc, append-nil, length_push}
 use Rattle.std.proofs.lemmas.Bool.{both_ways}
 use Rattle.layout.specs.Groups.{Group, group}
+use Rattle.layout.proofs.Groups.{groups_prefix}
 use Rattle.typing.specs.Cells.{Graph}
 use Rattle.typing.specs.declared.cell.Cell.TheVariants.{Atom as atom, Apply as apply}
-use Rattle.typing.specs.Heads.{Sort, parts_of, token_of, head_of}
+use Rattle.typing.specs.Heads.{Sort, parts_of, token_of, head_of, meaning_of}
 use Rattle.typing.specs.declared.head.Head.{Head}
 use Rattle.typing.specs.declared.head.Head.TheVariants.{Num, Fun, Rec, Absent, Present}
+use Rattle.typing.specs.declared.head.Token.TheVariants.{Head as OfHead, Variable}
 use Rattle.typing.specs.Solve.{lay}
 use Rattle.typing.specs.Strings.{term_bytes}
 use Rattle.typing.specs.Terms.{Term, var, head, ◌·◌, applied}
+use Rattle.typing.proofs.Meanings.{head_meant, variable_meant}
 use Rattle.typing.proofs.Records.{EachSorted, fill_applied}
 use Rattle.typing.proofs.TermReading.{Made, take_apart, applied_bytes, group_long}
 use Rattle.typing.proofs.TermReading as reading
-use Rattle.inference.specs.Layouts.{Answer, Legible, EachLegible, terms_bytes, shift, ReadsToken, Out, LaysTerm, LaysParts, Takes}
+use Rattle.inference.specs.Layouts.{Answer, Legible, EachLegible, terms_bytes, shift, Out, LaysTerm, LaysParts, Takes}
 use Rattle.inference.specs.Tables.{most_cells}
 
 abbrev Good : ℕ → Sort → Type 0
@@ -94,33 +97,43 @@ no_token base g bytes none s t rest legible is fits = token_at s t rest bytes �
 pub no_term : (base : ℕ) (bytes : List ℕ) (g g' : Graph) (r : Answer) → NoTerm base g bytes → LaysTerm base bytes g g' r
 no_term base bytes g g' r none s t rest legible is fits = absurd (none s t rest legible is fits)
 
+-- the token that was read is the term's
+abbrev Read : List ℕ → ℕ → List ℕ → Type 0
+Read bytes token behind = Group token × (bytes ≡ group token ++ behind)
+
+one_token : (bytes : List ℕ) (token n : ℕ) (behind rest : List ℕ) → Read bytes token behind → Group n → bytes ≡ group n ++ rest → (token ≡ n) × (behind ≡ rest)
+one_token bytes token n behind rest read good is = groups_prefix 2 token n behind rest read.0 good (sym read.1 ∙ is)
+
 -- a token of no head is a variable's
-pub lays_variable : (base : ℕ) (bytes : List ℕ) (g : Graph) (token : ℕ) (behind : Bor (List ℕ)) → ReadsToken bytes (Ok (token, behind)) → head_of token ≡ None → LaysTerm base bytes g g (Ok (base + (token - 5), behind))
-lays_variable base bytes g token behind reads none s t rest legible is fits = by_front (front s t rest bytes legible is)
+pub lays_variable : (base : ℕ) (bytes : List ℕ) (g : Graph) (token k : ℕ) (behind : Bor (List ℕ)) → Read bytes token behind.now → Variable k ≡ meaning_of token → LaysTerm base bytes g g (Ok (base + k, behind))
+lays_variable base bytes g token k behind read means s t rest legible is fits = by_front (front s t rest bytes legible is)
   where
-    by_front : Front t rest bytes → Out (shift base t) rest g g (Ok (base + (token - 5), behind))
-    by_front (is_var k e good at) =
-        let r = reads.token (5 + k) rest good at in
-        let same : lay (shift base t) g ≡ (g, base + k) = ap (λ u. lay (shift base u) g) e in
-        (ap (λ p. p.0) (sym same), omega (arith, r.0) ∙ ap (λ p. p.1) (sym same), r.1)
+    meant : (head_of token ≡ None) × (k ≡ token - 5)
+    meant = variable_meant token k means
+
+    by_front : Front t rest bytes → Out (shift base t) rest g g (Ok (base + k, behind))
+    by_front (is_var i e good at) =
+        let r = one_token bytes token (5 + i) behind.now rest read good at in
+        let same : lay (shift base t) g ≡ (g, base + i) = ap (λ u. lay (shift base u) g) e in
+        (ap (λ p. p.0) (sym same), omega (arith, r.0, meant.1) ∙ ap (λ p. p.1) (sym same), r.1)
     by_front (is_head h ts e each long at) =
-        let r = reads.token (token_of h) (terms_bytes ts ++ rest) (token_group h) at in
-        none_some (head_of token) h none (ap head_of r.0 ∙ head_back h)
+        let r = one_token bytes token (token_of h) behind.now (terms_bytes ts ++ rest) read (token_group h) at in
+        none_some (head_of token) h meant.0 (ap head_of r.0 ∙ head_back h)
 
 var_no_head : (k : ℕ) → head_of (5 + k) ≡ None
 var_no_head k = let e : 5 + k ≡ suc (suc (suc (suc (suc k)))) = omega arith in ap head_of e
 
 -- a head's parts are laid out behind it
-pub lays_head : (base : ℕ) (bytes : List ℕ) (g g₁ g' : Graph) (token : ℕ) (behind : Bor (List ℕ)) (h : Head) (cell count : ℕ) (r : Answer) → ReadsToken bytes (Ok (token, behind)) → head_of token ≡ Some h → count ≡ length (parts_of 4 h) → cell ≡ length g → g₁ ≡ g ++ atom h ∷ [] → LaysParts base cell count behind.now g₁ g' r → LaysTerm base bytes g g' r
-lays_head base bytes g g₁ g' token behind h cell count r reads some counted at-end pushed lays s t rest legible is fits = by_front (front s t rest bytes legible is)
+pub lays_head : (base : ℕ) (bytes : List ℕ) (g g₁ g' : Graph) (token : ℕ) (behind : Bor (List ℕ)) (h : Head) (cell count : ℕ) (r : Answer) → Read bytes token behind.now → OfHead h ≡ meaning_of token → count ≡ length (parts_of 4 h) → cell ≡ length g → g₁ ≡ g ++ atom h ∷ [] → LaysParts base cell count behind.now g₁ g' r → LaysTerm base bytes g g' r
+lays_head base bytes g g₁ g' token behind h cell count r read means counted at-end pushed lays s t rest legible is fits = by_front (front s t rest bytes legible is)
   where
     by_front : Front t rest bytes → Out (shift base t) rest g g' r
     by_front (is_var k e good at) =
-        let q = reads.token (5 + k) rest good at in
-        none_some (head_of token) h (ap head_of q.0 ∙ var_no_head k) some
+        let q = one_token bytes token (5 + k) behind.now rest read good at in
+        none_some (head_of token) h (ap head_of q.0 ∙ var_no_head k) (head_meant token h means)
     by_front (is_head top ts e each long at) =
-        let q = reads.token (token_of top) (terms_bytes ts ++ rest) (token_group top) at in
-        let same : top ≡ h = let z : Some top ≡ Some h = sym (head_back top) ∙ ap head_of (sym q.0) ∙ some in cc in
+        let q = one_token bytes token (token_of top) behind.now (terms_bytes ts ++ rest) read (token_group top) at in
+        let same : top ≡ h = let z : Some top ≡ Some h = sym (head_back top) ∙ ap head_of (sym q.0) ∙ head_meant token h means in cc in
         let whole : shift base t ≡ applied (head h) (map (shift base) ts) = ap (shift base) (e ∙ ap (λ x. applied (head x) ts) same) ∙ fill_applied (λ k. var (base + k)) (head h) ts in
         let out = lays g (head h) ts rest pushed at-end (long ∙ ap (λ x. length (parts_of 4 x)) same ∙ sym counted) each q.1 (subst (λ u. length (lay u g).0 ≤ most_cells) whole fits) in
         subst (λ u. Out u rest g g' r) (sym whole) out
@@ -154,13 +167,13 @@ part_full base cell count bytes behind g g₁ g' part r some one full g₀ f (t 
     let o = one each.0.0 t (terms_bytes ts ++ rest) each.0.1 (spelled ∙ append_assoc (term_bytes t) (terms_bytes ts) rest) (subst (λ x. length (lay (shift base t) x).0 ≤ most_cells) (sym is) (omega (arith, room))) in
     absurd (omega (arith, room, full, ap length (o.0 ∙ ap (λ x. (lay (shift base t) x).0) is)))
 
-pub head_full : (base : ℕ) (bytes : List ℕ) (g g' : Graph) (token : ℕ) (behind : Bor (List ℕ)) (h : Head) (r : Answer) → ReadsToken bytes (Ok (token, behind)) → head_of token ≡ Some h → most_cells ≤ length g → LaysTerm base bytes g g' r
-head_full base bytes g g' token behind h r reads some full s t rest legible is fits = by_front (front s t rest bytes legible is)
+pub head_full : (base : ℕ) (bytes : List ℕ) (g g' : Graph) (token : ℕ) (behind : Bor (List ℕ)) (h : Head) (r : Answer) → Read bytes token behind.now → OfHead h ≡ meaning_of token → most_cells ≤ length g → LaysTerm base bytes g g' r
+head_full base bytes g g' token behind h r read means full s t rest legible is fits = by_front (front s t rest bytes legible is)
   where
     by_front : Front t rest bytes → Out (shift base t) rest g g' r
     by_front (is_var k e good at) =
-        let q = reads.token (5 + k) rest good at in
-        none_some (head_of token) h (ap head_of q.0 ∙ var_no_head k) some
+        let q = one_token bytes token (5 + k) behind.now rest read good at in
+        none_some (head_of token) h (ap head_of q.0 ∙ var_no_head k) (head_meant token h means)
     by_front (is_head top ts e each long at) =
         let whole : shift base t ≡ applied (head top) (map (shift base) ts) = ap (shift base) e ∙ fill_applied (λ k. var (base + k)) (head top) ts in
         let longer = applied_longer (map (shift base) ts) (head top) g in

@@ -24,7 +24,7 @@ use Rattle.inference.specs.Outcomes.{Outcome, Concludes, clash_of, overlong_of}
 use Rattle.inference.specs.Posed.{at, constrain_at, node_at, spare}
 use Rattle.inference.specs.Tallies.{read_all, Totals}
 use Rattle.inference.specs.TypingStrings.{string_of}
-use Rattle.inference.specs.declared.tally.Tally.{Tally}
+use Rattle.forms.specs.declared.outline.Tally.{Tally}
 use Rattle.inference.proofs.Drafting.{forms_joined}
 use Rattle.inference.proofs.NodePosed.{cells_long, node_poses, node_inside}
 use Rattle.inference.proofs.TypingText.{counts_node, string_is}

@@ -6,7 +6,7 @@ use Rattle.std.proofs.lemmas.List.{append_assoc, drop_all, drop_more, take_more}
 use Rattle.std.proofs.lemmas.List.Edits.{length-insert}
 use Rattle.std.specs.Cmp.Lexicographic.{pointwise}
 use Rattle.typing.specs.Forms.{Name, same}
-use Rattle.typing.proofs.NamesOrder.{same_by_eq}
+use Rattle.typing.proofs.DerivedOrder.{equal_same}
 use Rattle.typing.specs.Strings.{before}
 use Rattle.typing.specs.Constraints.{insert, type_of, without}
 use Rattle.inference.specs.Slots.{Slot, slot_of, slots_of, most_entries, Goes}
@@ -110,7 +110,7 @@ cell_or (Some e) other = e.cell
 pub type_found : (n : Name) (es : List Entry) (other : ℕ) → type_of n (slots_of es) other ≡ cell_or (find (λ (e : Entry). pointwise eqb n e.name.0) es) other
 type_found n [] other = refl
 type_found n (e ∷ es) other =
-    ap (λ b. cond b e.cell (type_of n (slots_of es) other)) (sym (same_by_eq n e.name.0)) ∙ by_test (pointwise eqb n e.name.0) (type_found n es other)
+    ap (λ b. cond b e.cell (type_of n (slots_of es) other)) (sym (equal_same n e.name.0)) ∙ by_test (pointwise eqb n e.name.0) (type_found n es other)
   where
     by_test : (b : Bool) → type_of n (slots_of es) other ≡ cell_or (find (λ (e : Entry). pointwise eqb n e.name.0) es) other → cond b e.cell (type_of n (slots_of es) other) ≡ cell_or (cond b (Some e) (find (λ (e : Entry). pointwise eqb n e.name.0) es)) other
     by_test true later = refl
@@ -122,7 +122,7 @@ retained R n f says [] ys is = ap slots_of is
 retained R n f says (e ∷ es) ys (b, t, y, call, zs, rest, is) =
     let said = says e b t y call in
     let later = retained R n f says es zs (subst (λ u. RetainsInTurn R u es zs) said.0 rest) in
-    ap slots_of is ∙ ap₂ (λ (c : Bool) (z : Entry). slots_of (cond c (z ∷ zs) zs)) (said.2 ∙ ap not (same_by_eq n e.name.0)) said.1 ∙ by_test (same n e.name.0) later
+    ap slots_of is ∙ ap₂ (λ (c : Bool) (z : Entry). slots_of (cond c (z ∷ zs) zs)) (said.2 ∙ ap not (equal_same n e.name.0)) said.1 ∙ by_test (same n e.name.0) later
   where
     by_test : (b : Bool) → slots_of zs ≡ without n (slots_of es) → slots_of (cond (not b) (e ∷ zs) zs) ≡ cond b (without n (slots_of es)) (slot_of e ∷ without n (slots_of es))
     by_test true later = later

@@ -11,7 +11,7 @@ use Rattle.typing.specs.Strings.{Typing, most}
 use Rattle.typing.specs.Typings.{total, typing_or}
 use Rattle.typing.proofs.GroupReading.{then_some, if_some, some_is, pair_parts}
 use Rattle.inference.specs.Tallies.{AtMost, Sums, Tells, TellsNot, all_lawful, read_all}
-use Rattle.inference.specs.declared.tally.Tally.{Tally}
+use Rattle.forms.specs.declared.outline.Tally.{Tally}
 
 -- no count that is read is more than the most
 pub record Held (T : Typing) : Type 0 where
@@ -36,25 +36,16 @@ typing_held (b ∷ bs) T is =
     subst Held (some_is _ T s.2) (record { clashes = count_held bs _ _ c.1; overlongs = count_held c.0.1 _ _ o.1; holes = count_held o.0.1 _ _ h.1 })
 
 -- what the reader says of a string
-pub told : (s : List ℕ) (x : Outline) (t : Tally) → Ok x ≡ outlined (read_typing 4 s) → t.clashes ≡ x.clashes → t.overlongs ≡ x.overlongs → t.holes ≡ x.holes → Tells s t
-told s x t is c o h = by_reading (read_typing 4 s) refl is
+pub told : (s : List ℕ) (x : Outline) → Ok x ≡ outlined (read_typing 4 s) → Tells s x.tally
+told s x is = by_reading (read_typing 4 s) refl is
   where
-    by_reading : (r : Option Typing) → read_typing 4 s ≡ r → Ok x ≡ outlined r → Tells s t
+    by_reading : (r : Option Typing) → read_typing 4 s ≡ r → Ok x ≡ outlined r → Tells s x.tally
     by_reading None reads is = absurd (let z : ◌≡◌ {A = ℕ} 0 1 = cc in omega (arith, z))
     by_reading (Some T) reads is =
         let same : x ≡ outline_of T = cc in
         let typing : T ≡ typing_or (read_typing 4 s) = ap typing_or (sym reads) in
-        let clashes = c ∙ ap (λ y. y.clashes) same in
-        let overlongs = o ∙ ap (λ y. y.overlongs) same in
-        let holes = h ∙ ap (λ y. y.holes) same in
         let held = typing_held s T reads in
-        record {
-          lawful = ap is_some reads;
-          clashes = clashes ∙ ap (λ U. U.clashes) typing;
-          overlongs = overlongs ∙ ap (λ U. U.overlongs) typing;
-          holes = holes ∙ ap (λ U. U.holes) typing;
-          held = record { clashes = omega (arith, clashes, held.clashes); overlongs = omega (arith, overlongs, held.overlongs); holes = omega (arith, holes, held.holes) };
-        }
+        subst (Tells s) (ap (λ (y : Outline). y.tally) (sym same)) (record { lawful = ap is_some reads; clashes = ap (λ U. U.clashes) typing; overlongs = ap (λ U. U.overlongs) typing; holes = ap (λ U. U.holes) typing; held = record { clashes = held.clashes; overlongs = held.overlongs; holes = held.holes } })
 
 pub untold : (s : List ℕ) (fault : Fault) → Err fault ≡ outlined (read_typing 4 s) → TellsNot s fault
 untold s fault is = by_reading (read_typing 4 s) refl is

@@ -9,8 +9,8 @@ use Rattle.typing.specs.Typings.{counted, is_clash, is_hole, is_overlong, status
 use Rattle.inference.specs.Outcomes.{Outcome, Concludes, byte_of, bytes_of, clash_of, overlong_of}
 use Rattle.inference.specs.Tallies.{Totals}
 use Rattle.inference.specs.TypingStrings.{string_of}
-use Rattle.inference.specs.declared.untyped.Untyped.TheVariants.{Clashed, Overlong}
-use Rattle.inference.specs.declared.tally.Tally.{Tally}
+use Rattle.forms.specs.declared.outline.Tally.{Tally}
+use Rattle.forms.specs.declared.outline.Untyped.TheVariants.{Clashed, Overlong}
 
 -- what an outcome has of a status
 pub record Shows (s : Status) (r : Outcome) : Type 0 where

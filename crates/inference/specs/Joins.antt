@@ -1,11 +1,11 @@
 -- What it is to join the forms of children that their strings spell. Assumes nothing.
-use Rattle.std.specs.Prelude.{◌≡◌, ℕ, ◌+◌, List, [], ◌∷◌, ◌++◌, map, length, Some, Result, MatchResult}
+use Rattle.std.specs.Prelude.{◌≡◌, ℕ, ◌+◌, List, [], ◌∷◌, ◌++◌, map, length, Some, Ok, Err, Result, MatchResult}
 use Rattle.std.specs.Borrow.{Bor}
 use Rattle.syntax.specs.declared.fault.Fault.{Fault}
 use Rattle.syntax.specs.declared.name.Name as name
+use Rattle.forms.specs.declared.outline.FormOutline.{FormOutline}
 use Rattle.forms.specs.declared.outline.Outline.{Outline}
-use Rattle.forms.specs.declared.outline.Status.{Status}
-use Rattle.forms.specs.declared.outline.Status.TheVariants.{Formed, Clashed, Overlong}
+use Rattle.forms.specs.declared.outline.Untyped.{Untyped}
 use Rattle.typing.specs.Constraints.{joined}
 use Rattle.typing.specs.Forms.{Name, Form}
 use Rattle.typing.specs.Heads.{type}
@@ -39,13 +39,12 @@ abbrev pub AddsChild : ℕ → List ℕ → State → State → Result ℕ Fault
 AddsChild base text S S' r = (T : Typing) → read_typing 4 text ≡ Some T → DoesIf (add_form base (form_of T.status) S) S' r
 
 -- how many variables a child's form has, where a faulty child's is a hole's
-abbrev pub width_by : Status → ℕ → ℕ
-width_by Formed n = n
-width_by Clashed n = 1
-width_by Overlong n = 1
+abbrev pub width_by : Result FormOutline Untyped → ℕ
+width_by (Ok form) = form.variables
+width_by (Err why) = 1
 
 abbrev pub width_in : Outline → ℕ
-width_in o = width_by o.status o.variables
+width_in o = width_by o.form
 
 -- the strings spell these typings
 abbrev pub AllRead : List (List ℕ) → List Typing → Type 0

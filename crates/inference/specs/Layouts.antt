@@ -1,7 +1,7 @@
 -- What is laid out off bytes that spell terms. Assumes nothing.
-use Rattle.std.specs.Prelude.{◌≡◌, ℕ, ◌+◌, ◌<◌, ◌≤◌, List, [], ◌∷◌, ◌++◌, map, length, IfOk, Result, MatchResult}
+use Rattle.std.specs.Prelude.{◌≡◌, ℕ, ◌+◌, ◌≤◌, List, [], ◌∷◌, ◌++◌, map, length, IfOk, Result, MatchResult}
 use Rattle.std.specs.Borrow.{Bor}
-use Rattle.layout.specs.Groups.{Group, group}
+use Rattle.layout.specs.Groups.{Group}
 use Rattle.syntax.specs.declared.fault.Fault.{Fault}
 use Rattle.typing.specs.Cells.{Graph}
 use Rattle.typing.specs.Heads.{Sort}
@@ -29,11 +29,6 @@ terms_bytes (t ∷ ts) = term_bytes t ++ terms_bytes ts
 -- the term over the cells from `base` on
 abbrev pub shift : ℕ → Term → Term
 shift base t = fill (λ k. var (base + k)) t
-
--- a token off the front of some bytes, and what is behind it
-pub record ReadsToken (bytes : List ℕ) (r : Answer) : Type 0 where
-  pub shorter : IfOk r (λ p. length p.1.now < length bytes)
-  pub token : (n : ℕ) (rest : List ℕ) → Group n → bytes ≡ group n ++ rest → MatchResult r (λ p. (p.0 ≡ n) × (p.1.now ≡ rest)) (λ fault. ⊥)
 
 -- The term is laid out, and `rest` is behind it.
 abbrev pub Out : Term → List ℕ → Graph → Graph → Answer → Type 0

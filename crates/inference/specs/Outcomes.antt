@@ -3,8 +3,8 @@ use Rattle.std.specs.Prelude.{◌≡◌, ℕ, ◌<◌, ◌≤◌, List, [], leng
 use Rattle.arrayvec.specs.ArrayVec.{ArrayVec}
 use Rattle.typing.specs.Forms.{Form}
 use Rattle.typing.specs.Strings.{form_bytes, longest}
-use Rattle.inference.specs.declared.untyped.Untyped.{Untyped}
-use Rattle.inference.specs.declared.untyped.Untyped.TheVariants.{Clashed, Overlong}
+use Rattle.forms.specs.declared.outline.Untyped.{Untyped}
+use Rattle.forms.specs.declared.outline.Untyped.TheVariants.{Clashed, Overlong}
 
 abbrev pub Outcome : Type 0
 Outcome = Result (ArrayVec ℕ) Untyped

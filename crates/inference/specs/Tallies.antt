@@ -5,7 +5,7 @@ use Rattle.syntax.specs.declared.fault.Fault.TheVariants.{Unlawful}
 use Rattle.typing.specs.Parsing.{is_lawful, read_typing}
 use Rattle.typing.specs.Strings.{Typing, most}
 use Rattle.typing.specs.Typings.{total, typing_or}
-use Rattle.inference.specs.declared.tally.Tally.{Tally}
+use Rattle.forms.specs.declared.outline.Tally.{Tally}
 
 -- what strings say; one that is not lawful counts as a hole
 abbrev pub read_all : List (List ℕ) → List Typing

@@ -2,7 +2,7 @@
 use Rattle.std.specs.Prelude.{ℕ, ◌+◌, List, ◌∷◌, ◌++◌, length, take, drop}
 use Rattle.layout.specs.Groups.{group}
 use Rattle.inference.specs.Outcomes.{Outcome, byte_of, bytes_of}
-use Rattle.inference.specs.declared.tally.Tally.{Tally}
+use Rattle.forms.specs.declared.outline.Tally.{Tally}
 
 -- a buffer with a text in it from a place on
 abbrev pub put_at : ℕ → List ℕ → List ℕ → List ℕ

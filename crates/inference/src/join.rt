@@ -8,7 +8,7 @@ ghost use Rattle.inference.specs.Joins.{AddsAll, AddsChild, AddsEntries, AddsFor
 
 use crate::draft::Draft;
 use crate::entry::Entry;
-use forms::outline::{Outline, Status, read_typing};
+use forms::outline::{Outline, read_typing};
 use syntax::fault::Fault;
 use syntax::name::Name;
 
@@ -63,12 +63,9 @@ fn add_child(text: &[u8], outline: Outline, base: usize, draft: &mut Draft) -> R
     requires outline { outlined (read_typing 4 text.now) ≡ Ok outline }
     ensures { AddsChild base text.now (state_of draft.old) (state_of draft.new) result }
 {
-    match outline.status {
-        Status::Formed => {
-            let at = outline.entries_at;
-            add_form(&text[at..], outline.open_names, base, draft)
-        }
-        Status::Clashed | Status::Overlong => Ok(base),
+    match outline.form {
+        Ok(form) => add_form(&text[form.entries_at..], form.open_names, base, draft),
+        Err(_) => Ok(base),
     }
 }
 
@@ -84,10 +81,7 @@ fn read_child(text: &[u8]) -> Result<Outline, Fault>
 fn width(outline: Outline) -> usize
     ensures { result ≡ width_in outline }
 {
-    match outline.status {
-        Status::Formed => outline.variables,
-        Status::Clashed | Status::Overlong => 1,
-    }
+    outline.form.map_or(1, |form| form.variables)
 }
 
 // Adds the children from one on to an empty draft, the last one first, each over cells of its own. The

@@ -1,21 +1,14 @@
 // Laying terms out as cells, off the bytes that spell them.
 ghost use Rattle.std.specs.Prelude.{◌≡◌, ◌≤◌, length};
 ghost use Rattle.typing.specs.Heads.{parts_of};
-ghost use Rattle.inference.specs.Layouts.{LaysParts, LaysTerm, ReadsToken, Takes};
+ghost use Rattle.inference.specs.Layouts.{LaysParts, LaysTerm, Takes};
 ghost use Rattle.inference.specs.Tables.{graph_of};
 
 use crate::table::Table;
-use layout::group::read_group;
+use forms::number::read_number;
 use syntax::fault::Fault;
 use typing::cell::Cell;
-use typing::head::Head;
-
-// The token at the front of some bytes, and the bytes behind it.
-fn read_token(bytes: &[u8]) -> Result<(u32, &[u8]), Fault>
-    ensures { ReadsToken bytes.now result }
-{
-    read_group(bytes).ok_or(Fault::Unlawful)
-}
+use typing::head::{Head, Token};
 
 // Lays out the term at the front of some bytes, whose variables have the cells from `base` on. The
 // answer is its cell and the bytes behind it.
@@ -29,12 +22,14 @@ pub(crate) fn lay_term<'a>(
     ensures takes { Takes 1 bytes.now result }
     ensures lays { LaysTerm base bytes.now (graph_of table.old) (graph_of table.new) result }
 {
-    let (token, rest) = read_token(bytes)?;
-    let Some(head) = Head::from_token(token) else {
-        return Ok((base + (token as usize - 5), rest));
-    };
-    let cell = table.push(Cell::Atom(head))?;
-    lay_parts(cell, part_count(head), rest, base, table)
+    let (token, rest) = read_number(bytes)?;
+    match Token::from(token) {
+        Token::Variable(k) => Ok((base + k as usize, rest)),
+        Token::Head(head) => {
+            let cell = table.push(Cell::Atom(head))?;
+            lay_parts(cell, part_count(head), rest, base, table)
+        }
+    }
 }
 
 // Lays out so many terms that stand one behind another, and applies a cell to each in turn.

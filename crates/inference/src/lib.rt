@@ -17,6 +17,5 @@ mod script;
 mod table;
 mod tally;
 mod typing_string;
-mod untyped;
 mod worklist;
 mod writer;

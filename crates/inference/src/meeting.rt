@@ -25,7 +25,7 @@ fn meet(low: Cell, high: Cell) -> Result<(Cell, Option<Parts>), Clash>
     match (low, high) {
         (Cell::Free, _) => Ok((high, None)),
         (Cell::Atom(_) | Cell::Apply(_, _), Cell::Free) => Ok((low, None)),
-        (Cell::Atom(h), Cell::Atom(k)) if h.token() == k.token() => Ok((low, None)),
+        (Cell::Atom(h), Cell::Atom(k)) if h == k => Ok((low, None)),
         (Cell::Apply(a, b), Cell::Apply(c, d)) => {
             let functions = (a, c);
             let arguments = (b, d);

@@ -7,7 +7,7 @@ use crate::constrain::constrain;
 use crate::draft::Draft;
 use crate::join::add_children;
 use crate::outcome::Outcome;
-use crate::tally::Tally;
+use crate::tally::{sum_tallies, with_node};
 use crate::typing_string::write_string;
 use forms::outline::is_lawful;
 use syntax::argument::Symbol;
@@ -35,7 +35,7 @@ fn write_lawful(symbol: Symbol, parts: &[&[u8]], out: &mut [u8]) -> Result<usize
     ensures { Writes symbol (texts parts.now) out.old out.new result }
 {
     let outcome = infer(symbol, parts)?;
-    let tally = Tally::of_parts(parts)?.with_node(symbol.kind, &outcome);
+    let tally = with_node(sum_tallies(parts)?, symbol.kind, &outcome);
     Ok(write_string(&outcome, tally, out))
 }
 

@@ -5,8 +5,8 @@ ghost use Rattle.inference.specs.Outcomes.{byte_of, clash_of, overlong_of};
 use crate::cycle::Cycle;
 use crate::meeting::Clash;
 use crate::script::FormText;
-use crate::untyped::Untyped;
 use crate::writer::TooLong;
+use forms::outline::Untyped;
 
 pub type Outcome = Result<FormText, Untyped>;
 
@@ -42,7 +42,7 @@ pub(crate) fn status(outcome: &Outcome) -> u8
 }
 
 impl From<Clash> for Untyped {
-    ghost use Rattle.inference.specs.declared.untyped.Untyped.TheVariants.{Clashed};
+    ghost use Rattle.forms.specs.declared.outline.Untyped.TheVariants.{Clashed};
 
     ghost from_gives = { λ _ u. u ≡ Clashed };
 
@@ -52,7 +52,7 @@ impl From<Clash> for Untyped {
 }
 
 impl From<Cycle> for Untyped {
-    ghost use Rattle.inference.specs.declared.untyped.Untyped.TheVariants.{Clashed};
+    ghost use Rattle.forms.specs.declared.outline.Untyped.TheVariants.{Clashed};
 
     ghost from_gives = { λ _ u. u ≡ Clashed };
 
@@ -62,7 +62,7 @@ impl From<Cycle> for Untyped {
 }
 
 impl From<TooLong> for Untyped {
-    ghost use Rattle.inference.specs.declared.untyped.Untyped.TheVariants.{Overlong};
+    ghost use Rattle.forms.specs.declared.outline.Untyped.TheVariants.{Overlong};
 
     ghost from_gives = { λ _ u. u ≡ Overlong };
 

@@ -7,7 +7,7 @@ ghost use Rattle.inference.specs.TypingStrings.{put_at, string_of};
 
 use crate::group::group;
 use crate::outcome::{Outcome, status};
-use crate::tally::Tally;
+use forms::outline::Tally;
 
 // Writes bytes into a buffer from a place on; the answer is the place behind them.
 fn put(out: &mut [u8], at: usize, bytes: &[u8]) -> usize

@@ -1,5 +1,5 @@
 -- What is known of a string whose type is printed. Assumes nothing.
-use Rattle.std.proofs.Common.{◌≡◌, ℕ, ◌+◌, ◌-◌, ◌≤◌, Bool, true, false, cond, ltb, List, [], ◌++◌, length, take, drop, IfOk, Some, None, Ok, Err, Option, Result, sym, refl, ap, ◌∙◌, subst, arith, length-drop}
+use Rattle.std.proofs.Common.{◌≡◌, ℕ, ◌+◌, ◌-◌, ◌≤◌, Bool, true, false, cond, ltb, List, [], ◌++◌, length, take, drop, Some, None, Ok, Err, Option, Result, sym, refl, ap, ◌∙◌, subst, arith, length-drop}
 use Rattle.std.proofs.lemmas.List.{append-nil, take_rest}
 use Rattle.std.proofs.lemmas.Bool.{ltb-false}
 use Rattle.forms.specs.Outlines.{type_offset}
@@ -25,10 +25,10 @@ pub record Typed (text : List ℕ) (at : ℕ) (answer : Result (List ℕ) Fault)
   pub stands : drop at text ≡ term_bytes form.result
   pub answered : answer ≡ Ok (type_text form.result)
 
-status_typed : (text : List ℕ) (T : Typing) (s : Status) (at : ℕ) → Bytes text → read_typing 4 text ≡ Some T → T.status ≡ s → Ok at ≡ status_at (type_offset T) s → Typed text at (status_text s)
+status_typed : (text : List ℕ) (T : Typing) (s : Status) (at : ℕ) → Bytes text → read_typing 4 text ≡ Some T → T.status ≡ s → Ok at ≡ status_at T s → Typed text at (status_text s)
 status_typed text T (formed F) at bytes is of e =
     let good : Good 4 F = subst (GoodStatus 4) of (typing_read 4 text T bytes is).0.status in
-    let here : at ≡ type_offset T = cc in
+    let here : at ≡ type_offset T F = cc in
     record { form = F; good = good; stands = ap (λ n. drop n text) here ∙ (form_stands text T F bytes is of).1; answered = refl }
 status_typed text T clashed at bytes is of e = absurd (let z : ◌≡◌ {A = ℕ} 0 1 = cc in omega (arith, z))
 status_typed text T overlong at bytes is of e = absurd (let z : ◌≡◌ {A = ℕ} 0 1 = cc in omega (arith, z))
@@ -45,14 +45,14 @@ admitted_typed text room at bytes e = by_room (ltb room 4000) e
     by_room false e' = typing_typed text (read_typing 4 text) at bytes refl e'
 
 -- what is refused is refused for the same reason
-status_refused : (n : ℕ) (s : Status) (fault : Fault) → Err fault ≡ status_at n s → status_text s ≡ Err fault
-status_refused n (formed F) fault e = absurd (let z : ◌≡◌ {A = ℕ} 0 1 = cc in omega (arith, z))
-status_refused n clashed fault e = cc
-status_refused n overlong fault e = cc
+status_refused : (T : Typing) (s : Status) (fault : Fault) → Err fault ≡ status_at T s → status_text s ≡ Err fault
+status_refused T (formed F) fault e = absurd (let z : ◌≡◌ {A = ℕ} 0 1 = cc in omega (arith, z))
+status_refused T clashed fault e = cc
+status_refused T overlong fault e = cc
 
 typing_refused : (o : Option Typing) (fault : Fault) → Err fault ≡ typing_at o → typing_text o ≡ Err fault
 typing_refused None fault e = cc
-typing_refused (Some T) fault e = status_refused (type_offset T) T.status fault e
+typing_refused (Some T) fault e = status_refused T T.status fault e
 
 pub admitted_refused : (room : ℕ) (o : Option Typing) (fault : Fault) → Err fault ≡ admitted room o → answer_text room o ≡ Err fault
 admitted_refused room o fault e = by_room (ltb room 4000) e
@@ -62,9 +62,8 @@ admitted_refused room o fault e = by_room (ltb room 4000) e
     by_room false e' = typing_refused o fault e'
 
 -- the type that is found stands within the string, and is short
-pub admitted_within : (text : List ℕ) (room : ℕ) (r : Result ℕ Fault) → Bytes text → r ≡ admitted room (read_typing 4 text) → IfOk r (λ at. (4000 ≤ room) × (at ≤ length text) × (length text ≤ at + 240))
-admitted_within text room (Err fault) bytes e = tt
-admitted_within text room (Ok at) bytes e =
+pub admitted_within : (text : List ℕ) (room at : ℕ) → Bytes text → Ok at ≡ admitted room (read_typing 4 text) → (4000 ≤ room) × (at ≤ length text) × (length text ≤ at + 240)
+admitted_within text room at bytes e =
     let typed = admitted_typed text room at bytes e in
     let left = sym (length-drop at text) ∙ ap length typed.stands in
     (by_room (ltb room 4000) refl e, omega (arith, left, term_long typed.form.result), omega (arith, left, result_long typed.form typed.good))

@@ -42,14 +42,14 @@ Roomed around bytes at r =
     IfSome r (λ p. (length p.rest.now ≤ length bytes) × (p.at + 16 * length p.rest.now ≤ at + around + 16 * length bytes))
 
 -- where the type begins, unless it is refused
-abbrev pub status_at : ℕ → Status → Result ℕ Fault
-status_at n (formed F) = Ok n
-status_at n clashed = Err Unlawful
-status_at n overlong = Err Unlawful
+abbrev pub status_at : Typing → Status → Result ℕ Fault
+status_at T (formed F) = Ok (type_offset T F)
+status_at T clashed = Err Unlawful
+status_at T overlong = Err Unlawful
 
 abbrev pub typing_at : Option Typing → Result ℕ Fault
 typing_at None = Err Unlawful
-typing_at (Some T) = status_at (type_offset T) T.status
+typing_at (Some T) = status_at T T.status
 
 abbrev pub admitted : ℕ → Option Typing → Result ℕ Fault
 admitted room o = cond (nat_lt room 4000) (Err ShortBuffer) (typing_at o)

@@ -1,11 +1,11 @@
 // The type of a typing string, written out.
-ghost use Rattle.std.specs.Prelude.{◌≡◌, ◌+◌, ◌≤◌, length, IfOk};
+ghost use Rattle.std.specs.Prelude.{◌≡◌, length};
 ghost use Rattle.typing.specs.Parsing.{read_typing};
 ghost use Rattle.type_text.specs.Prints.{admitted};
 ghost use Rattle.type_text.specs.TypeTexts.{TypeTextFits, WritesText, answer_text};
 
 use crate::print::print_type;
-use forms::outline::{Status, read_typing};
+use forms::outline::read_typing;
 use syntax::fault::Fault;
 
 // A buffer of this length has room for the text of any type of a typing string.
@@ -23,24 +23,14 @@ pub fn write_type(text: &[u8], out: &mut [u8]) -> Result<usize, Fault>
     }
 }
 
-// Where the type begins, from which on there are at most as many bytes as a form has.
+// Where the type begins. A buffer that is too short is refused, then a string that is not lawful or has
+// no form.
 fn admit(text: &[u8], room: usize) -> Result<usize, Fault>
-    ensures value { result ≡ admitted room (read_typing 4 text.now) }
-    ensures within { IfOk result (λ at. (4000 ≤ room) × (at ≤ length text.now) × (length text.now ≤ at + 240)) }
-{
-    find_type(text, room)
-}
-
-// Refuses a buffer that is too short, then a string that is not lawful or has no form.
-fn find_type(text: &[u8], room: usize) -> Result<usize, Fault>
     ensures { result ≡ admitted room (read_typing 4 text.now) }
 {
     if room < MAX_TYPE_TEXT {
         return Err(Fault::ShortBuffer);
     }
-    let outline = read_typing(text)?;
-    match outline.status {
-        Status::Formed => Ok(outline.type_at),
-        Status::Clashed | Status::Overlong => Err(Fault::Unlawful),
-    }
+    let form = read_typing(text)?.form.map_err(|_| Fault::Unlawful)?;
+    Ok(form.type_at)
 }

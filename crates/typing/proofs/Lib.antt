@@ -27,3 +27,5 @@ pub mod StringReading
 pub mod StringRule
 pub mod TermsRead
 pub mod StringsRead
+pub mod DerivedOrder
+pub mod Meanings

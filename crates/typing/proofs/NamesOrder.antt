@@ -1,9 +1,5 @@
 -- Names: the test of equality, and the order of their bytes. Assumes nothing.
-use Rattle.std.proofs.Common.{◌≡◌, ℕ, ◌<◌, Bool, true, false, ◌&&◌, eqb, ltb, ◌⊎◌, List, [], ◌∷◌, Ordering, sym, refl, ap, ◌∙◌, subst, ap₂, inl, inr, arith}
-use Rattle.std.specs.Cmp.Lexicographic.{pointwise, slice_cmp}
-use Rattle.std.specs.Ordering.{is_eq, is_lt, nat_cmp}
-use Rattle.std.proofs.lemmas.Cmp.{same_from_slice_cmp}
-use Rattle.std.proofs.lemmas.Bool.Decides.{nat_tests}
+use Rattle.std.proofs.Common.{◌≡◌, ℕ, ◌<◌, Bool, true, false, ◌&&◌, eqb, ltb, ◌⊎◌, List, [], ◌∷◌, sym, refl, ◌∙◌, subst, ap₂, inl, inr, arith}
 use Rattle.std.proofs.lemmas.Bool.{both_ways, eqb-true, eq-eqb, ltb-true, ltb-false, lt-ltb, and_parts, and_from, or_cases, or_parts, or_left, or_right, cases_order}
 use Rattle.typing.specs.Forms.{Name, same}
 use Rattle.typing.specs.Strings.{before, Ahead, Rising}
@@ -88,18 +84,3 @@ ahead_unlisted n (e ∷ es) ahead rising =
     further : (fs : List (Name × Term)) → Ahead e.0 fs → Ahead n fs
     further [] a = tt
     further (f ∷ fs) a = before_trans n e.0 f.0 ahead a
-
--- the order and the equality that a derive gives
-pub same_by_cmp : (a b : List ℕ) (o : Ordering) → o ≡ slice_cmp nat_cmp a b → is_eq o ≡ same a b
-same_by_cmp =
-    same_from_slice_cmp nat_cmp is_eq same refl (λ _ _. refl) (λ _ _. refl) (λ x y xs ys o h. grind (arith, nat_tests))
-
-pub before_by_cmp : (a b : List ℕ) (o : Ordering) → o ≡ slice_cmp nat_cmp a b → is_lt o ≡ before a b
-before_by_cmp =
-    same_from_slice_cmp nat_cmp is_lt before refl (λ _ _. refl) (λ _ _. refl) (λ x y xs ys o h. grind (arith, nat_tests))
-
-pub same_by_eq : (a b : List ℕ) → pointwise eqb a b ≡ same a b
-same_by_eq [] [] = refl
-same_by_eq [] (y ∷ ys) = refl
-same_by_eq (x ∷ xs) [] = refl
-same_by_eq (x ∷ xs) (y ∷ ys) = ap (λ t. eqb x y && t) (same_by_eq xs ys)

@@ -1,7 +1,9 @@
 -- The heads of types and places, their sorts, and their tokens. Assumes nothing.
-use Rattle.std.specs.Prelude.{ℕ, zero, suc, List, [], ◌∷◌, replicate, Some, None, Option}
+use Rattle.std.specs.Prelude.{ℕ, zero, suc, ◌-◌, List, [], ◌∷◌, replicate, Some, None, Option}
 use Rattle.typing.specs.declared.head.Head.{Head}
 use Rattle.typing.specs.declared.head.Head.TheVariants.{Num, Fun, Rec, Absent, Present}
+use Rattle.typing.specs.declared.head.Token.{Token}
+use Rattle.typing.specs.declared.head.Token.TheVariants.{Head as OfHead, Variable}
 
 -- a term stands for a type, or for a place of a record
 pub data Sort : Type 0 where
@@ -38,3 +40,11 @@ head_of (suc (suc zero)) = Some Rec
 head_of (suc (suc (suc zero))) = Some Absent
 head_of (suc (suc (suc (suc zero)))) = Some Present
 head_of (suc (suc (suc (suc (suc n))))) = None
+
+-- the head that a token is, or else the variable of its number
+abbrev pub head_or : ℕ → Option Head → Token
+head_or n (Some h) = OfHead h
+head_or n None = Variable (n - 5)
+
+abbrev pub meaning_of : ℕ → Token
+meaning_of n = head_or n (head_of n)

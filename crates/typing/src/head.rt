@@ -1,8 +1,11 @@
-// The heads of types and of places, and the token that stands for each in a form.
+// The heads of types and of places, and the tokens that stand for heads and variables in a form.
 ghost use Rattle.std.specs.Prelude.{◌≡◌};
-ghost use Rattle.typing.specs.Heads.{head_of, token_of};
+ghost use Rattle.typing.specs.Heads.{head_of, meaning_of, token_of};
 
-#[derive(Clone, Copy)]
+// The token of the first variable. Those below are heads.
+const FIRST_VARIABLE: u32 = 5;
+
+#[derive(Clone, Copy, Debug, PartialEq, Eq)]
 pub enum Head {
     Num,
     Fun,
@@ -15,7 +18,24 @@ impl Head {
     pub fn token(self) -> u32
         ensures { result ≡ token_of self }
     {
-        match self {
+        u32::from(self)
+    }
+
+    pub fn from_token(token: u32) -> Option<Head>
+        ensures { result ≡ head_of token }
+    {
+        match Token::from(token) {
+            Token::Head(head) => Some(head),
+            Token::Variable(_) => None,
+        }
+    }
+}
+
+impl From<Head> for u32 {
+    ghost from_gives = { λ head token. token ≡ token_of head };
+
+    fn from(head: Head) -> u32 {
+        match head {
             Head::Num => 0,
             Head::Fun => 1,
             Head::Rec => 2,
@@ -23,17 +43,26 @@ impl Head {
             Head::Present => 4,
         }
     }
+}
 
-    pub fn from_token(token: u32) -> Option<Head>
-        ensures { result ≡ head_of token }
-    {
+// What a token stands for: a head, or the variable of this number.
+#[derive(Clone, Copy, Debug, PartialEq, Eq)]
+pub enum Token {
+    Head(Head),
+    Variable(u32),
+}
+
+impl From<u32> for Token {
+    ghost from_gives = { λ token meaning. meaning ≡ meaning_of token };
+
+    fn from(token: u32) -> Token {
         match token {
-            0 => Some(Head::Num),
-            1 => Some(Head::Fun),
-            2 => Some(Head::Rec),
-            3 => Some(Head::Absent),
-            4 => Some(Head::Present),
-            _ => None,
+            0 => Token::Head(Head::Num),
+            1 => Token::Head(Head::Fun),
+            2 => Token::Head(Head::Rec),
+            3 => Token::Head(Head::Absent),
+            4 => Token::Head(Head::Present),
+            _ => Token::Variable(token - FIRST_VARIABLE),
         }
     }
 }

@@ -1,4 +1,4 @@
-use Rattle.std.proofs.Common.{sym, arith}
+use Rattle.std.proofs.Common.{arith}
 use Rattle.inference.proofs.LayingOut.{takes_fault, takes_more, no_token, no_term, lays_variable, lays_head, head_full, lays_none, no_part, part_full, lays_more}
 use Rattle.inference.proofs.lay.+lays_term.Goals as goal
 
@@ -21,17 +21,17 @@ lay_parts-returns t c =
 
 pub lay_term-returns-in_err-token : goal.lay_term-returns-in_err-token
 lay_term-returns-in_err-token t c =
-    record { takes = takes_fault _ _ _ c.from_residual.ensures.0; lays = no_term _ _ _ _ _ (no_token _ _ _ c.in_err-token.ensures.token) }
+    record { takes = takes_fault _ _ _ c.from_residual.ensures.0; lays = no_term _ _ _ _ _ (no_token _ _ _ c.in_err-token.ensures.value.1) }
 
-pub lay_term-returns-in_default : goal.lay_term-returns-in_default
-lay_term-returns-in_default t c =
-    record { takes = omega (arith, c.in_ok-token.ensures.shorter); lays = lays_variable _ _ _ _ _ c.in_ok-token.ensures (sym c.in_default.ensures) }
+pub lay_term-returns-in-Variable : goal.lay_term-returns-in-Variable
+lay_term-returns-in-Variable t c =
+    record { takes = omega (arith, c.in_ok-token.ensures.read.1); lays = lays_variable _ _ _ _ _ c.in_ok-token.rest c.in_ok-token.ensures.value c.in-Variable.ensures }
 
-pub lay_term-returns-in_err-cell : goal.lay_term-returns-in_err-cell
-lay_term-returns-in_err-cell t c =
-    record { takes = takes_fault _ _ _ c.from_residual-in_err-cell.ensures.0; lays = head_full _ _ _ _ _ _ _ _ c.in_ok-token.ensures (sym c.in-Some.ensures) c.in_err-cell.ensures }
+pub lay_term-returns-in_err-cell-in-Head : goal.lay_term-returns-in_err-cell-in-Head
+lay_term-returns-in_err-cell-in-Head t c =
+    record { takes = takes_fault _ _ _ c.from_residual-in_err-cell-in-Head.ensures.0; lays = head_full _ _ _ _ _ c.in_ok-token.rest _ _ c.in_ok-token.ensures.value c.in-Head.ensures c.in_err-cell-in-Head.ensures }
 
-pub lay_term-returns : goal.lay_term-returns
-lay_term-returns t c =
-    let p = c.in_ok-cell.ensures in
-    record { takes = takes_more 1 0 _ _ _ c.lay_parts.ensures.takes (omega (arith, c.in_ok-token.ensures.shorter)); lays = lays_head _ _ _ _ _ _ _ _ _ _ _ c.in_ok-token.ensures (sym c.in-Some.ensures) c.part_count.ensures p.0 p.1 c.lay_parts.ensures.lays }
+pub lay_term-returns-in_ok-cell-in-Head : goal.lay_term-returns-in_ok-cell-in-Head
+lay_term-returns-in_ok-cell-in-Head t c =
+    let p = c.in_ok-cell-in-Head.ensures in
+    record { takes = takes_more 1 0 _ _ _ c.lay_parts.ensures.takes (omega (arith, c.in_ok-token.ensures.read.1)); lays = lays_head _ _ _ _ _ _ c.in_ok-token.rest _ _ _ _ c.in_ok-token.ensures.value c.in-Head.ensures c.part_count.ensures p.0 p.1 c.lay_parts.ensures.lays }

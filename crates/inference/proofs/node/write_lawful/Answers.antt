@@ -7,15 +7,15 @@ use Rattle.inference.proofs.LawfulNodes.{read_lawful}
 use Rattle.inference.proofs.NodeFacts.{few, rule_written}
 use Rattle.inference.proofs.node.write_lawful.Goals as goal
 
-pub of_parts-requires : goal.of_parts-requires
-of_parts-requires c =
+pub sum_tallies-requires : goal.sum_tallies-requires
+sum_tallies-requires c =
     let parts = c.args.parts.now in
     omega (arith, few c.args.symbol (texts parts) c.requires.lawful, length-map parts (λ slice. slice.now))
 
-pub returns-in_err-of_parts : goal.returns-in_err-of_parts
-returns-in_err-of_parts c =
-    absurd (both_ways (all_lawful (texts c.args.parts.now)) c.in_err-of_parts.ensures.1 (read_lawful (texts c.args.parts.now) c.requires.lawful.reads))
+pub returns-in_err-sum_tallies : goal.returns-in_err-sum_tallies
+returns-in_err-sum_tallies c =
+    absurd (both_ways (all_lawful (texts c.args.parts.now)) c.in_err-sum_tallies.ensures.1 (read_lawful (texts c.args.parts.now) c.requires.lawful.reads))
 
 pub returns : goal.returns
 returns c =
-    rule_written c.args.symbol (texts c.args.parts.now) c.in_ok-outcome.outcome c.in_ok-of_parts.field-0 c.with_node-tally.result _ c.args.out.now _ c.in_ok-outcome.ensures c.in_ok-of_parts.ensures.1 c.with_node-tally.ensures.clashes c.with_node-tally.ensures.overlongs c.with_node-tally.ensures.holes c.write_string.ensures.long c.write_string.ensures.wrote
+    rule_written c.args.symbol (texts c.args.parts.now) c.in_ok-outcome.outcome c.in_ok-sum_tallies.field-0 c.with_node-tally.result _ c.args.out.now _ c.in_ok-outcome.ensures c.in_ok-sum_tallies.ensures.1 c.with_node-tally.ensures.clashes c.with_node-tally.ensures.overlongs c.with_node-tally.ensures.holes c.write_string.ensures.long c.write_string.ensures.wrote
