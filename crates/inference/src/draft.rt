@@ -87,10 +87,7 @@ impl Draft {
     pub(crate) fn equate(&mut self, a: usize, b: usize) -> Result<(), Fault>
         ensures { Does (equate_at a b (state_of self.old), tt) (state_of self.new) result }
     {
-        match self.pairs.try_push((a, b)) {
-            Ok(()) => Ok(()),
-            Err(_) => Err(Fault::ShortBuffer),
-        }
+        self.pairs.try_push((a, b)).map_err(|_| Fault::ShortBuffer)
     }
 
     // Lists an entry; where its name is listed already, the two cells have to be equal.

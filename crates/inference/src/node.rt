@@ -64,10 +64,8 @@ fn admit(symbol: Symbol, parts: &[&[u8]], room: usize) -> Result<(), Fault>
     if parts.len() != symbol.kind.arity() {
         return Err(Fault::Unlawful);
     }
-    for part in parts {
-        if !is_allowed(part) {
-            return Err(Fault::Unlawful);
-        }
+    if !parts.iter().all(|part| is_allowed(part)) {
+        return Err(Fault::Unlawful);
     }
     Ok(())
 }

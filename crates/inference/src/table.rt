@@ -31,10 +31,8 @@ impl Table {
         ensures { Pushed cell (graph_of self.old) (graph_of self.new) result }
     {
         let number = self.cells.len();
-        match self.cells.try_push(cell) {
-            Ok(()) => Ok(number),
-            Err(_) => Err(Fault::ShortBuffer),
-        }
+        self.cells.try_push(cell).map_err(|_| Fault::ShortBuffer)?;
+        Ok(number)
     }
 
     // Adds so many free cells, if there is room.

@@ -14,12 +14,18 @@ use crate::entry::Entry;
 use crate::graph::Graph;
 use crate::group::group;
 use crate::script::{FormText, Script};
-use arrayvec::ArrayVec;
+use arrayvec::{ArrayVec, CapacityError};
 use typing::cell::Cell;
 
 // There is no room for the rest of a form.
 #[derive(Clone, Copy, Debug, PartialEq, Eq)]
 pub struct TooLong;
+
+impl From<CapacityError> for TooLong {
+    fn from(_full: CapacityError) -> TooLong {
+        TooLong
+    }
+}
 
 impl Script {
     fn new() -> Script
@@ -36,10 +42,8 @@ impl Script {
     fn push(&mut self, bytes: &[u8]) -> Result<(), TooLong>
         ensures { Added bytes.now self.old self.new result }
     {
-        match self.text.try_extend_from_slice(bytes) {
-            Ok(()) => Ok(()),
-            Err(_) => Err(TooLong),
-        }
+        self.text.try_extend_from_slice(bytes)?;
+        Ok(())
     }
 
     // Adds a group number, if there is room for it.
