@@ -9,6 +9,7 @@ ghost use Rattle.inference.specs.Nodes.{Ready};
 ghost use Rattle.inference.specs.Outcomes.{Concludes};
 ghost use Rattle.inference.specs.Posed.{drop_name};
 
+use crate::base::Base;
 use crate::entries::Entries;
 use crate::entry::Entry;
 use crate::graph::Graph;
@@ -49,14 +50,13 @@ impl Draft {
         self.table.push_free(count)
     }
 
-    // Lays out the term at the front of some bytes, whose variables have the cells from `base` on.
+    // Lays out the term at the front of some bytes, whose variables have the cells from a base on.
     pub(crate) fn lay<'a>(
         &mut self,
         bytes: &'a [u8],
-        base: usize,
+        base: Base,
     ) -> Result<(usize, &'a [u8]), Fault>
-        requires { base ≤ 1440 }
-        ensures { LaysAt base bytes.now (state_of self.old) (state_of self.new) result }
+        ensures { LaysAt base.cell bytes.now (state_of self.old) (state_of self.new) result }
     {
         lay_term(bytes, base, &mut self.table)
     }

@@ -6,6 +6,7 @@ ghost use Rattle.typing.specs.Parsing.{read_typing};
 ghost use Rattle.inference.specs.Drafts.{state_of, unknowns};
 ghost use Rattle.inference.specs.Joins.{AddsAll, AddsChild, AddsEntries, AddsForm, ReadsName, width_in};
 
+use crate::base::Base;
 use crate::draft::Draft;
 use crate::entry::Entry;
 use forms::outline::{Outline, read_typing};
@@ -31,11 +32,10 @@ fn read_name(bytes: &[u8]) -> Result<(Name, &[u8]), Fault>
 fn add_entries<'a>(
     bytes: &'a [u8],
     count: usize,
-    base: usize,
+    base: Base,
     draft: &mut Draft,
 ) -> Result<&'a [u8], Fault>
-    requires { base ≤ 1440 }
-    ensures { AddsEntries base count bytes.now (state_of draft.old) (state_of draft.new) result }
+    ensures { AddsEntries base.cell count bytes.now (state_of draft.old) (state_of draft.new) result }
 {
     if count == 0 {
         return Ok(bytes);
@@ -48,9 +48,8 @@ fn add_entries<'a>(
 }
 
 // Adds a form of so many entries, and answers the cell of its type.
-fn add_form(bytes: &[u8], count: usize, base: usize, draft: &mut Draft) -> Result<usize, Fault>
-    requires { base ≤ 1440 }
-    ensures { AddsForm base count bytes.now (state_of draft.old) (state_of draft.new) result }
+fn add_form(bytes: &[u8], count: usize, base: Base, draft: &mut Draft) -> Result<usize, Fault>
+    ensures { AddsForm base.cell count bytes.now (state_of draft.old) (state_of draft.new) result }
 {
     let rest = add_entries(bytes, count, base, draft)?;
     let (cell, _) = draft.lay(rest, base)?;
@@ -58,14 +57,13 @@ fn add_form(bytes: &[u8], count: usize, base: usize, draft: &mut Draft) -> Resul
 }
 
 // Adds the form of a child, or that of a hole if the child is faulty, and answers the cell of its type.
-fn add_child(text: &[u8], outline: Outline, base: usize, draft: &mut Draft) -> Result<usize, Fault>
-    requires base { base ≤ 1440 }
-    requires outline { outlined (read_typing 4 text.now) ≡ Ok outline }
-    ensures { AddsChild base text.now (state_of draft.old) (state_of draft.new) result }
+fn add_child(text: &[u8], outline: Outline, base: Base, draft: &mut Draft) -> Result<usize, Fault>
+    requires { outlined (read_typing 4 text.now) ≡ Ok outline }
+    ensures { AddsChild base.cell text.now (state_of draft.old) (state_of draft.new) result }
 {
     match outline.form {
         Ok(form) => add_form(&text[form.entries_at..], form.open_names, base, draft),
-        Err(_) => Ok(base),
+        Err(_) => Ok(base.cell),
     }
 }
 
@@ -89,24 +87,27 @@ fn width(outline: Outline) -> usize
 pub(crate) fn add_children(
     parts: &[&[u8]],
     from: usize,
-    base: usize,
+    base: Base,
     draft: &mut Draft,
     types: &mut [usize],
 ) -> Result<usize, Fault>
     requires few { length parts.now ≤ 3 }
     requires types { length types.old ≡ 3 }
     requires from { from ≤ length parts.now }
-    requires base { base ≤ 240 * from }
+    requires base { base.cell ≤ 240 * from }
     requires empty { state_of draft.old ≡ unknowns 0 }
-    ensures { AddsAll base (drop from (texts parts.now)) (state_of draft.new) (drop from types.new) result }
+    ensures { AddsAll base.cell (drop from (texts parts.now)) (state_of draft.new) (drop from types.new) result }
 {
     if from == parts.len() {
-        draft.push_free(base + SPARE)?;
-        return Ok(base);
+        draft.push_free(base.cell + SPARE)?;
+        return Ok(base.cell);
     }
     let text = parts[from];
     let outline = read_child(text)?;
-    let fresh = add_children(parts, from + 1, base + width(outline), draft, types)?;
+    let next = Base {
+        cell: base.cell + width(outline),
+    };
+    let fresh = add_children(parts, from + 1, next, draft, types)?;
     let cell = add_child(text, outline, base, draft)?;
     types[from] = cell;
     Ok(fresh)

@@ -4,27 +4,27 @@ ghost use Rattle.typing.specs.Heads.{parts_of};
 ghost use Rattle.inference.specs.Layouts.{LaysParts, LaysTerm, Takes};
 ghost use Rattle.inference.specs.Tables.{graph_of};
 
+use crate::base::Base;
 use crate::table::Table;
 use forms::number::read_number;
 use syntax::fault::Fault;
 use typing::cell::Cell;
 use typing::head::{Head, Token};
 
-// Lays out the term at the front of some bytes, whose variables have the cells from `base` on. The
+// Lays out the term at the front of some bytes, whose variables have the cells from a base on. The
 // answer is its cell and the bytes behind it.
 #[cycle(lays_term)]
 pub(crate) fn lay_term<'a>(
     bytes: &'a [u8],
-    base: usize,
+    base: Base,
     table: &mut Table,
 ) -> Result<(usize, &'a [u8]), Fault>
-    requires { base ≤ 1440 }
     ensures takes { Takes 1 bytes.now result }
-    ensures lays { LaysTerm base bytes.now (graph_of table.old) (graph_of table.new) result }
+    ensures lays { LaysTerm base.cell bytes.now (graph_of table.old) (graph_of table.new) result }
 {
     let (token, rest) = read_number(bytes)?;
     match Token::from(token) {
-        Token::Variable(k) => Ok((base + k as usize, rest)),
+        Token::Variable(k) => Ok((base.cell + k as usize, rest)),
         Token::Head(head) => {
             let cell = table.push(Cell::Atom(head))?;
             lay_parts(cell, part_count(head), rest, base, table)
@@ -38,12 +38,11 @@ fn lay_parts<'a>(
     cell: usize,
     count: usize,
     bytes: &'a [u8],
-    base: usize,
+    base: Base,
     table: &mut Table,
 ) -> Result<(usize, &'a [u8]), Fault>
-    requires { base ≤ 1440 }
     ensures takes { Takes 0 bytes.now result }
-    ensures lays { LaysParts base cell count bytes.now (graph_of table.old) (graph_of table.new) result }
+    ensures lays { LaysParts base.cell cell count bytes.now (graph_of table.old) (graph_of table.new) result }
 {
     if count == 0 {
         return Ok((cell, bytes));

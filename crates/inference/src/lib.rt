@@ -1,6 +1,7 @@
 // Working out the most general typing of a node by unification.
 #![tactic(auto)]
 
+mod base;
 mod constrain;
 mod cycle;
 mod draft;

@@ -3,6 +3,7 @@ ghost use Rattle.std.specs.Prelude.{◌≡◌, ◌≤◌, length};
 ghost use Rattle.reading.specs.Readings.{Weighed, refusal, texts};
 ghost use Rattle.inference.specs.Nodes.{Answered, Infers, Lawful, Writes, allowed, typed};
 
+use crate::base::Base;
 use crate::constrain::constrain;
 use crate::draft::Draft;
 use crate::join::add_children;
@@ -23,7 +24,7 @@ fn infer(symbol: Symbol, parts: &[&[u8]]) -> Result<Outcome, Fault>
 {
     let mut draft = Draft::new();
     let mut types = [0; 3];
-    let fresh = add_children(parts, 0, 0, &mut draft, &mut types)?;
+    let fresh = add_children(parts, 0, Base { cell: 0 }, &mut draft, &mut types)?;
     let result = constrain(symbol, fresh, &types, &mut draft)?;
     Ok(draft.solve(result))
 }

@@ -17,14 +17,14 @@ returns-in_err-outline t c =
 pub returns-in_err-fresh : goal.returns-in_err-fresh
 returns-in_err-fresh t c =
     let lt : c.args.from < length c.args.parts.now = omega arith in
-    no_later _ _ _ _ (text_at c.args.parts.now c.args.from _ lt) c.in_ok-outline.outline (sym c.in_ok-outline.ensures.value) _ (ap (λ w. c.args.base + w) c.width.ensures) _ _ _ c.in_err-fresh.ensures
+    no_later _ _ _ _ (text_at c.args.parts.now c.args.from _ lt) c.in_ok-outline.outline (sym c.in_ok-outline.ensures.value) _ (ap (λ w. c.args.base.cell + w) c.width.ensures) _ _ _ c.in_err-fresh.ensures
 
 pub returns-in_err-cell : goal.returns-in_err-cell
 returns-in_err-cell t c =
     let lt : c.args.from < length c.args.parts.now = omega arith in
-    no_cell _ _ _ _ (text_at c.args.parts.now c.args.from _ lt) c.in_ok-outline.outline (sym c.in_ok-outline.ensures.value) _ (ap (λ w. c.args.base + w) c.width.ensures) _ _ _ c.in_ok-fresh.ensures _ _ _ c.in_err-cell.ensures
+    no_cell _ _ _ _ (text_at c.args.parts.now c.args.from _ lt) c.in_ok-outline.outline (sym c.in_ok-outline.ensures.value) _ (ap (λ w. c.args.base.cell + w) c.width.ensures) _ _ _ c.in_ok-fresh.ensures _ _ _ c.in_err-cell.ensures
 
 pub returns : goal.returns
 returns t c =
     let lt : c.args.from < length c.args.parts.now = omega arith in
-    child_more _ _ _ _ (text_at c.args.parts.now c.args.from _ lt) c.in_ok-outline.outline (sym c.in_ok-outline.ensures.value) _ (ap (λ w. c.args.base + w) c.width.ensures) _ _ _ c.in_ok-fresh.ensures _ _ _ (drop-set _ c.args.from _ (omega arith)) c.in_ok-cell.ensures
+    child_more _ _ _ _ (text_at c.args.parts.now c.args.from _ lt) c.in_ok-outline.outline (sym c.in_ok-outline.ensures.value) _ (ap (λ w. c.args.base.cell + w) c.width.ensures) _ _ _ c.in_ok-fresh.ensures _ _ _ (drop-set _ c.args.from _ (omega arith)) c.in_ok-cell.ensures
