@@ -16,7 +16,7 @@ pub going_first : (g : Graph) (stack : Pairs) → Within (length g) (reverse sta
 going_first g stack within room =
     record { long = refl; within = within; room = omega (arith, room, live_length g, length-reverse stack); same = refl }
 
-pub reversed_push : (rest : Pairs) (p : ℕ × ℕ) → reverse (rest ++ p ∷ []) ≡ p ∷ reverse rest
+reversed_push : (rest : Pairs) (p : ℕ × ℕ) → reverse (rest ++ p ∷ []) ≡ p ∷ reverse rest
 reversed_push rest p = reverse-append rest (p ∷ [])
 
 -- The pair on top is taken off, and its cells are made equal.
@@ -41,10 +41,10 @@ module _ (start : Graph) (pairs : Pairs) (g : Graph) (tidy : Tidy (length g) g) 
     as_many : length stack' ≡ length parts + length (reverse rest)
     as_many = sym (length-reverse stack') ∙ ap length these ∙ length-append parts (reverse rest)
 
-    pub less : 3 * live g' + length stack' < 3 * live g + length stack
+    less : 3 * live g' + length stack' < 3 * live g + length stack
     less = omega (arith, kept.less, length-append parts (reverse rest), as_many, ap length top, length-append rest (p ∷ []), length-reverse rest)
 
-    pub goes_on : Going start pairs g' (reverse stack')
+    goes_on : Going start pairs g' (reverse stack')
     goes_on =
         let as_long = kept.tidy.long in
         record {
@@ -53,6 +53,28 @@ module _ (start : Graph) (pairs : Pairs) (g : Graph) (tidy : Tidy (length g) g) 
           room = omega (arith, here.room, kept.less, length-append parts (reverse rest), as_many, length-reverse stack', few);
           same = ap (unify g') these ∙ sym (next ∙ ap (λ o. after o unify) is) ∙ here.same;
         }
+
+  -- the pair is done with
+  module _ (g' : Graph) (is : step g (p ∷ reverse rest) ≡ more g' (reverse rest)) where
+    pub passed : Going start pairs g' (reverse rest)
+    passed = goes_on g' [] rest is (omega arith) refl
+
+    pub passed_less : 3 * live g' + length rest < 3 * live g + length stack
+    passed_less = less g' [] rest is (omega arith) refl
+
+  -- the pairs of its parts are put on the stack, that of the functions on top
+  module _ (g' : Graph) (f a : ℕ × ℕ) (is : step g (p ∷ reverse rest) ≡ more g' (f ∷ a ∷ reverse rest)) (one two : Pairs) (first : one ≡ rest ++ a ∷ []) (second : two ≡ one ++ f ∷ []) where
+    these : reverse two ≡ f ∷ a ∷ reverse rest
+    these = ap reverse second ∙ reversed_push one f ∙ ap (λ ps. f ∷ reverse ps) first ∙ ap (λ ps. f ∷ ps) (reversed_push rest a)
+
+    pub parted : Going start pairs g' (reverse two)
+    parted = goes_on g' (f ∷ a ∷ []) two is (omega arith) these
+
+    pub parted_less : 3 * live g' + length two < 3 * live g + length stack
+    parted_less = less g' (f ∷ a ∷ []) two is (omega arith) these
+
+    pub parts_room : length one < 1440
+    parts_room = omega (arith, parted.room, length-reverse two, ap length second, length-append one (f ∷ []))
 
 -- no pair is left
 pub finished : (start : Graph) (pairs : Pairs) (g : Graph) (stack : Pairs) → Tidy (length g) g → length stack ≡ 0 → Going start pairs g (reverse stack) → Some g ≡ unify start pairs
