@@ -180,6 +180,9 @@ written_as start end after r same h = subst (λ z. MatchOption r ⊥ (λ x. (x.0
 pub ahead_as : {bytes bytes' path p end : List ℕ} {m : ℕ} {f : Forest Symbol} → bytes ≡ bytes' → Ahead bytes path m p f end → Ahead bytes' path m p f end
 ahead_as {bytes} {bytes'} {path} {p} {end} {m} {f} same a = subst (λ z. Ahead z path m p f end) same a
 
+pub ahead_at : {bytes path path' p end : List ℕ} {m : ℕ} {f : Forest Symbol} → path ≡ path' → Ahead bytes path m p f end → Ahead bytes path' m p f end
+ahead_at {bytes} {path} {path'} {p} {end} {m} {f} same a = subst (λ z. Ahead bytes z m p f end) same a
+
 -- the same at the root, whose path is a dot
 pub record Root (rest here : List ℕ) (n : ℕ) (s : Symbol) (t : Tree Symbol) (start : List ℕ) : Type 0 where
   pub c : Forest Symbol

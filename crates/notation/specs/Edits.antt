@@ -1,8 +1,8 @@
 -- Edits that put a node in, the edits that build a tree, and their lines. Assumes nothing.
-use Rattle.std.specs.Prelude.{◌≡◌, ℕ, zero, suc, ◌+◌, List, [], ◌∷◌, ◌++◌, map, Some, None, codes, decimal, Option}
+use Rattle.std.specs.Prelude.{◌≡◌, ℕ, zero, suc, ◌+◌, List, [], ◌∷◌, ◌++◌, map, Some, None, codes, Option}
 use Rattle.std.specs.List.{flat_map}
 use Rattle.notation.specs.ArgumentTexts.{field_of}
-use Rattle.syntax.specs.Faults.{number_of}
+use Rattle.syntax.specs.Faults.{shown}
 use Rattle.syntax.specs.Rules.{Rule}
 use Rattle.syntax.specs.Kinds.{arity, word_of}
 use Rattle.syntax.specs.Trees.{Forest, none, grow, Tree, node}
@@ -75,4 +75,4 @@ edit_lines t = flat_map put_line (edits t)
 
 -- the line of a refusal
 abbrev pub no_line : Fault → List ℕ
-no_line fault = codes "no " ++ decimal (number_of fault) ++ codes "\n"
+no_line fault = shown fault ++ codes "\n"

@@ -1,5 +1,5 @@
 // The edit lines that build the tree of a sheet file from a single hole.
-ghost use Rattle.std.specs.Prelude.{◌≡◌, ◌+◌, ◌≤◌, true, ◌++◌, length};
+ghost use Rattle.std.specs.Prelude.{◌≡◌, ◌+◌, ◌≤◌, true, ◌++◌, length, OnSome};
 ghost use Rattle.notation.specs.ArgumentTexts.{ParsesBack, field_of};
 ghost use Rattle.notation.specs.EditAnswers.{Adds, AddsLines, Answered, WritesFile};
 ghost use Rattle.notation.specs.Edits.{Rebuilds, line_at, no_line, spaced};
@@ -7,9 +7,10 @@ ghost use Rattle.notation.specs.Texts.{text_of};
 ghost use Rattle.syntax.specs.Arguments.{fits, sound};
 
 use crate::argument_text::push_argument;
-use crate::decimal::push_decimal;
+use crate::refusal::refusal_text;
 use crate::text::Text;
-use layout::scan::{MAX_DEPTH, scan};
+use arrayvec::ArrayVec;
+use layout::scan::scan;
 use layout::symbol_bytes::read_symbol;
 use syntax::argument::{Argument, Symbol};
 use syntax::fault::Fault;
@@ -21,14 +22,10 @@ pub const MAX_NODES: usize = 1024;
 // letters and an argument of six digits.
 pub const MAX_ANSWER: usize = 57_344;
 
-// A node whose children are being written: its path as text, how many levels may lie below it, and
-// the number of the child that comes next.
-#[derive(Clone, Copy)]
-struct Place {
-    path: Text,
-    levels: usize,
-    next: u8,
-}
+// The longest path as text: a dot, and a digit for each level below the root.
+const MAX_PATH: usize = 41;
+
+type Path = ArrayVec<u8, MAX_PATH>;
 
 // Adds the field of an argument, with the space before it, to a text.
 fn push_field(text: &mut Text, argument: Argument)
@@ -47,10 +44,9 @@ fn push_field(text: &mut Text, argument: Argument)
 }
 
 // The line that puts a node in at a path.
-fn put_line(path: &Text, symbol: Symbol) -> Text
-    requires fits { fits symbol ≡ true }
-    requires short { length (text_of path.now) ≤ 41 }
-    ensures { text_of result ≡ line_at (text_of path.now) symbol }
+fn put_line(path: &Path, symbol: Symbol) -> Text
+    requires { fits symbol ≡ true }
+    ensures { text_of result ≡ line_at path.now.items symbol }
 {
     let mut text = Text::new();
     text.append(b"p ");
@@ -64,20 +60,18 @@ fn put_line(path: &Text, symbol: Symbol) -> Text
 
 // The line that says that something was refused.
 fn no_line(fault: Fault) -> Text
-    ensures { text_of result ≡ no_line fault }
+    ensures text { text_of result ≡ no_line fault }
+    ensures len { length (text_of result) ≤ 64 }
 {
-    let mut text = Text::new();
-    text.append(b"no ");
-    push_decimal(&mut text, u32::from(u8::from(fault)));
+    let mut text = refusal_text(fault);
     text.push(b'\n');
     text
 }
 
 // Adds the line of a node to a buffer that is written up to `at`, and answers how far it is then.
-fn write_line(path: &Text, symbol: Symbol, out: &mut [u8], at: usize) -> Option<usize>
-    requires fits { fits symbol ≡ true }
-    requires short { length (text_of path.now) ≤ 41 }
-    ensures { Adds (line_at (text_of path.now) symbol) at out.old out.new result }
+fn write_line(path: &Path, symbol: Symbol, out: &mut [u8], at: usize) -> Option<usize>
+    requires { fits symbol ≡ true }
+    ensures { Adds (line_at path.now.items symbol) at out.old out.new result }
 {
     if at > out.len() {
         return None;
@@ -89,40 +83,32 @@ fn write_line(path: &Text, symbol: Symbol, out: &mut [u8], at: usize) -> Option<
     }
 }
 
-// Adds the lines of the next `count` trees of a file, which are children of a node.
+// Adds the lines of the next `count` trees of a file, the children from `next` on of the node at a
+// path. The path is lent while the lines below are written, and comes back as it was.
 fn write_trees<'a>(
     bytes: &'a [u8],
-    place: Place,
+    path: &mut Path,
+    next: u8,
     count: usize,
     out: &mut [u8],
     at: usize,
 ) -> Option<(&'a [u8], usize)>
-    requires few { place.next + count ≤ 3 }
-    requires depth { length (text_of place.path) + place.levels ≡ 41 }
-    ensures { AddsLines bytes.now (text_of place.path) place.next count at out.old out.new result }
+    requires { next + count ≤ 3 }
+    ensures path { OnSome result (path.new.items ≡ path.old.items) }
+    ensures lines { AddsLines bytes.now path.old.items next count at out.old out.new result }
 {
     if count == 0 {
         return Some((bytes, at));
     }
-    if place.levels == 0 {
+    if path.is_full() {
         return None;
     }
     let (symbol, rest) = read_symbol(bytes)?;
-    let mut path = place.path;
-    path.push(b'0' + place.next);
-    let at = write_line(&path, symbol, out, at)?;
-    let below = Place {
-        path,
-        levels: place.levels - 1,
-        next: 0,
-    };
-    let (rest, at) = write_trees(rest, below, symbol.kind.arity(), out, at)?;
-    let beside = Place {
-        path: place.path,
-        levels: place.levels,
-        next: place.next + 1,
-    };
-    write_trees(rest, beside, count - 1, out, at)
+    path.push(b'0' + next);
+    let at = write_line(path, symbol, out, at)?;
+    let (rest, at) = write_trees(rest, path, 0, symbol.kind.arity(), out, at)?;
+    let _ = path.pop();
+    write_trees(rest, path, next + 1, count - 1, out, at)
 }
 
 // The lines of a whole file, from the front of a buffer on.
@@ -130,15 +116,10 @@ fn write_tree(file: &[u8], out: &mut [u8]) -> Option<usize>
     ensures { WritesFile file.now out.old out.new result }
 {
     let (symbol, rest) = read_symbol(file)?;
-    let mut path = Text::new();
+    let mut path = Path::new();
     path.push(b'.');
     let at = write_line(&path, symbol, out, 0)?;
-    let root = Place {
-        path,
-        levels: MAX_DEPTH,
-        next: 0,
-    };
-    let (_, at) = write_trees(rest, root, symbol.kind.arity(), out, at)?;
+    let (_, at) = write_trees(rest, &mut path, 0, symbol.kind.arity(), out, at)?;
     Some(at)
 }
 

@@ -5,5 +5,6 @@ pub mod argument_text;
 pub mod decimal;
 pub mod edit_lines;
 pub mod group;
+pub mod refusal;
 pub mod symbol;
 pub mod text;

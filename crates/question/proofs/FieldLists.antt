@@ -1,8 +1,10 @@
 -- The fields of a line, one after another. Assumes nothing.
-use Rattle.std.proofs.Common.{◌≡◌, ℕ, zero, suc, ◌+◌, ◌-◌, ◌<◌, ◌≤◌, true, false, ◌&&◌, List, [], ◌∷◌, length, get_or, take, drop, sym, refl, ap, ◌∙◌, ap₂, suc-le-suc, add-one, arith}
-use native.Mathlib.Nat.{sub-zero}
-use Rattle.std.proofs.lemmas.List.{take_rest, length-take, length-drop}
-use Rattle.std.proofs.lemmas.Bool.{and_parts, eq-eqb, ne_eqb}
+use Rattle.std.proofs.Common.{◌≡◌, ℕ, zero, suc, ◌+◌, ◌-◌, ◌<◌, ◌≤◌, true, false, ◌&&◌, List, [], ◌∷◌, length, get_or, take, drop, sym, refl, ap, ◌∙◌, suc-le-suc, add-one, arith, Bool, position, None, Some, ◌==◌, ◌⊎◌, inl, inr}
+use Rattle.std.proofs.lemmas.List.{take_rest}
+use Rattle.std.proofs.lemmas.Bool.{and_parts, cases_lt, eq-eqb, eqb-true, false≢true, lt-ltb, ne_eqb}
+use Rattle.std.proofs.lemmas.List.Quantifiers.{position-Some}
+use Rattle.std.proofs.lemmas.List.Sums.{fails_before_first}
+use Rattle.std.specs.List.{position_or_len}
 use Rattle.question.specs.Fields.{fields, before, is_string, are_strings}
 
 -- no space stands before a place
@@ -23,15 +25,26 @@ fields_whole (b ∷ text) clear =
     let other = ne_eqb b 32 (clear 0 (omega arith)) in
     rw other (ap (before b) (fields_whole text (λ k h. clear (suc k) (suc-le-suc h))))
 
-module _ (text : List ℕ) (i : ℕ) (within : i < length text) where
-  pub fields_split : Clear text i → get_or text i 0 ≡ 32 → fields text ≡ take (i - 0) text ∷ fields (take (length text - (i + 1)) (drop (i + 1) text))
-  fields_split clear here =
-      fields_at text i within clear here
-      ∙ ap₂ (λ k z. take k text ∷ fields z) (sym (sub-zero i)) (ap (λ k. drop k text) (sym (add-one i)) ∙ sym (take_rest text (i + 1)))
+abbrev pub is_space : ℕ → Bool
+is_space b = b == 32
 
-  pub shorter : length (take (i - 0) text) + length (take (length text - (i + 1)) (drop (i + 1) text)) ≤ length text
-  shorter =
-      omega (arith, length-take (i - 0) text, sub-zero i, ap length (take_rest text (i + 1)), length-drop (i + 1) text)
+-- the first space ends the first field
+pub fields_split : (text : List ℕ) (i : ℕ) → position is_space text ≡ Some i → fields text ≡ take i text ∷ fields (take (length text - (i + 1)) (drop (i + 1) text))
+fields_split text i found =
+    let (within, here, clear) = position-Some is_space text i 0 found in
+    fields_at text i within (λ k h e. false≢true (sym (clear k h) ∙ eq-eqb (get_or text k 0) 32 e)) (eqb-true (get_or text i 0) 32 here)
+    ∙ ap (λ z. take i text ∷ fields z) (ap (λ k. drop k text) (sym (add-one i)) ∙ sym (take_rest text (i + 1)))
+
+-- where there is no space, the text is a field
+pub fields_one : (text : List ℕ) → position is_space text ≡ None → fields text ≡ text ∷ []
+fields_one text none = by_place (cases_lt (position_or_len is_space text) (length text))
+  where
+    at : ℕ
+    at = position_or_len is_space text
+
+    by_place : (at < length text) ⊎ (length text ≤ at) → fields text ≡ text ∷ []
+    by_place (inl some) = absurd (let z : ◌≡◌ {A = ℕ} 0 1 = let e : Some at ≡ None = sym (rw (lt-ltb at (length text) some)) ∙ none in cc in omega arith)
+    by_place (inr past) = fields_whole text (λ k h e. false≢true (sym (fails_before_first is_space text k 0 (omega arith)) ∙ eq-eqb (get_or text k 0) 32 e))
 
 pub strings_go : (field : List ℕ) (rest : List (List ℕ)) (fs : List (List ℕ)) → fs ≡ field ∷ rest → is_string field ≡ true → are_strings rest ≡ are_strings fs
 strings_go field rest fs is good = sym (ap are_strings is ∙ ap (λ b. b && are_strings rest) good)

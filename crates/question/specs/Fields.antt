@@ -1,7 +1,7 @@
 -- The fields of a line, which one space parts. Assumes nothing.
 use Rattle.std.specs.Prelude.{ℕ, Bool, true, false, cond, not, ◌&&◌, ◌||◌, List, [], ◌∷◌, length, Some, None, Option, ◌==◌}
 use Rattle.std.specs.Borrow.{Bor}
-use Rattle.question.specs.Hex.{is_hex}
+use Rattle.question.specs.Digits.{is_hex}
 
 -- a character joins the field that it stands before
 abbrev pub before : ℕ → List (List ℕ) → List (List ℕ)

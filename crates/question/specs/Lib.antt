@@ -1,3 +1,3 @@
-pub mod Hex
+pub mod Digits
 pub mod Fields
 pub mod Questions

@@ -1,8 +1,8 @@
 -- What a line asks, and the answer to it. Assumes nothing.
-use Rattle.std.specs.Prelude.{◌≡◌, ℕ, ◌+◌, ◌/◌, ◌%◌, ◌<◌, ◌≤◌, true, cond, not, ◌&&◌, ◌⊎◌, List, [], ◌∷◌, ◌++◌, map, length, drop, Some, None, codes, MatchBool, Option, Result, MatchResult, ◌≢◌, nat_le, nat_lt}
+use Rattle.std.specs.Prelude.{◌≡◌, ℕ, ◌<◌, ◌≤◌, true, cond, not, ◌&&◌, ◌⊎◌, List, [], ◌∷◌, ◌++◌, map, length, drop, Some, None, codes, MatchBool, Option, Result, MatchResult, ◌≢◌, nat_le}
 use Rattle.notation.specs.ArgumentTexts.{field_of}
 use Rattle.syntax.specs.Arguments.{fits}
-use Rattle.syntax.specs.Faults.{number_of}
+use Rattle.syntax.specs.Faults.{shown}
 use Rattle.syntax.specs.Kinds.{word_of}
 use Rattle.syntax.specs.declared.argument.Symbol.{Symbol}
 use Rattle.syntax.specs.declared.fault.Fault.{Fault}
@@ -12,7 +12,7 @@ use Rattle.reading.specs.Readings.{Meaning, suits}
 use Rattle.question.specs.Fields.{fields, is_dash, is_empty, are_strings}
 use Rattle.question.specs.declared.source.Source.{Source}
 use Rattle.question.specs.declared.source.Source.TheVariants.{Names}
-use Rattle.question.specs.Hex.{hex, unhex}
+use Rattle.question.specs.Digits.{hex, unhex}
 
 -- the readings by their words
 abbrev pub source_word : Source → List ℕ
@@ -25,13 +25,9 @@ meaning_of Names = named
 abbrev pub longest : ℕ
 longest = 4096
 
--- the digits of a number below a hundred
-abbrev pub digits : ℕ → List ℕ
-digits n = cond (nat_lt n 10) ((48 + n) ∷ []) ((48 + n / 10) ∷ ((48 + n % 10) ∷ []))
-
 -- the answer to a question that is refused
 abbrev pub refused : Fault → List ℕ
-refused fault = codes "no " ++ digits (number_of fault)
+refused fault = shown fault
 
 -- the answer for a node over its children's strings: the rule's string, where the strings suit
 abbrev pub told : Meaning → Symbol → List (List ℕ) → List ℕ

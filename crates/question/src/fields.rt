@@ -1,30 +1,32 @@
 // The fields of a line, which one space parts.
-ghost use Rattle.std.specs.Prelude.{◌≡◌, ◌+◌, ◌≤◌, ◌∷◌, length};
+ghost use Rattle.std.specs.Prelude.{◌≡◌, ◌+◌, ◌≤◌, ◌∷◌, length, ◌==◌, position};
 ghost use Rattle.question.specs.Fields.{are_strings, fields, fields_in, is_dash, is_string, length_in};
 
-use crate::hex::is_hex;
+use crate::digits::is_hex;
+
+// Where the first space stands.
+fn find_space(text: &[u8]) -> Option<usize>
+    ensures { result ≡ position (λ b. b == 32) text.now }
+{
+    text.iter().position(|b| *b == b' ')
+}
 
 // The first field of a text, and what is left of the text behind the space after it.
 pub(crate) fn split_field(text: &[u8]) -> (&[u8], Option<&[u8]>)
     ensures value { fields text.now ≡ result.0.now ∷ fields_in result.1 }
     ensures len { length result.0.now + length_in result.1 ≤ length text.now }
 {
-    for (i, b) in text.iter().enumerate() {
-        if *b == b' ' {
-            return (&text[0..i], Some(&text[i + 1..]));
-        }
+    match find_space(text) {
+        Some(i) => (&text[..i], Some(&text[i + 1..])),
+        None => (text, None),
     }
-    (text, None)
 }
 
 // Whether a field is a minus sign.
 pub(crate) fn is_dash(field: &[u8]) -> bool
     ensures { result ≡ is_dash field.now }
 {
-    match field.split_first() {
-        Some((first, rest)) => *first == b'-' && rest.is_empty(),
-        None => false,
-    }
+    matches!(field, b"-")
 }
 
 // Whether a field is a child's string.

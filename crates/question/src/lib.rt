@@ -3,16 +3,15 @@
 
 ghost use Rattle.question.specs.Questions.{Answered};
 
-use crate::hex::write_hex;
+use crate::digits::write_hex;
 use crate::line::ask_line;
-use crate::refusal::write_refusal;
+use notation::refusal::refusal_text;
 use syntax::fault::Fault;
 
+mod digits;
 mod fields;
-mod hex;
 mod line;
 mod node;
-mod refusal;
 mod source;
 mod strings;
 
@@ -29,6 +28,6 @@ pub fn answer(line: &[u8], out: &mut [u8]) -> Result<usize, Fault>
     let mut text = [0; 1024];
     match ask_line(line, &mut text) {
         Ok(n) => Ok(write_hex(&text[0..n], out)),
-        Err(fault) => Ok(write_refusal(fault, out)),
+        Err(fault) => refusal_text(fault).copy_to(out),
     }
 }

@@ -4,7 +4,7 @@ ghost use Rattle.syntax.specs.Arguments.{fits};
 ghost use Rattle.syntax.specs.declared.fault.Fault.TheVariants.{Unlawful};
 ghost use Rattle.reading.specs.Readings.{suits};
 ghost use Rattle.question.specs.Fields.{are_strings, fields_in, length_in};
-ghost use Rattle.question.specs.Hex.{hex, unhex};
+ghost use Rattle.question.specs.Digits.{hex, unhex};
 ghost use Rattle.question.specs.Questions.{Answer, meaning_of, refused};
 
 use crate::fields::{are_strings, split_field};

@@ -1,4 +1,4 @@
-use Rattle.std.proofs.Common.{length, refl, ◌∙◌, inl, inr, arith, length-take}
+use Rattle.std.proofs.Common.{length, refl, ◌∙◌, inl, inr, arith}
 use Rattle.std.proofs.lemmas.Bool.{le-leb, lt-leb}
 use Rattle.notation.specs.Texts.{text_of}
 use Rattle.notation.proofs.EditLines.{wrote_fits, written_some}
@@ -13,10 +13,10 @@ returns-then-out-lt-MAX_ANSWER c =
 pub returns-in-Err : goal.returns-in-Err
 returns-in-Err c =
     let t = c.no_line.result in
-    let (told, is) = wrote_fits (text_of t) _ _ _ (omega (arith, length-take t.len t.bytes, t.within)) c.copy_to.ensures in
+    let (told, is) = wrote_fits (text_of t) _ _ _ (omega (arith, c.no_line.ensures.len)) c.copy_to.ensures in
     record {
       answer = rw (le-leb 57344 (length c.args.out.now) c.if-out-lt-MAX_ANSWER.false)
-          (text_of t, inr (c.in-Err.fault, c.in-Err.ensures.answer, c.no_line.ensures), told, is);
+          (text_of t, inr (c.in-Err.fault, c.in-Err.ensures.answer, c.no_line.ensures.text), told, is);
       meaning = rebuilds;
       fields = parses_back;
     }

@@ -1,13 +1,10 @@
 -- Bytes as pairs of lowercase hexadecimal digits. Assumes nothing.
-use Rattle.std.specs.Prelude.{ℕ, ◌+◌, ◌-◌, ◌*◌, ◌/◌, ◌%◌, Bool, true, false, cond, ◌&&◌, ◌||◌, List, [], ◌∷◌, nat_le, nat_lt}
+use Rattle.std.specs.Prelude.{ℕ, ◌+◌, ◌-◌, ◌*◌, Bool, true, false, cond, ◌&&◌, ◌||◌, List, [], ◌∷◌, nat_le, nat_lt}
+use Rattle.hex.specs.Hex.{encode_lower}
 
--- the character of a digit below sixteen
-abbrev pub digit : ℕ → ℕ
-digit n = cond (nat_lt n 10) (48 + n) (87 + n)
-
+-- two digits for each byte
 abbrev pub hex : List ℕ → List ℕ
-hex [] = []
-hex (b ∷ bytes) = digit (b / 16) ∷ (digit (b % 16) ∷ hex bytes)
+hex bytes = encode_lower bytes
 
 -- 0 to 9 and a to f
 abbrev pub is_digit : ℕ → Bool

@@ -1,5 +1,5 @@
 use Rattle.std.proofs.Common.{length}
-use Rattle.question.proofs.hex.+is_hex.Given as goal
+use Rattle.question.proofs.digits.+is_hex.Given as goal
 
 abbrev pub decreases-is_hex : goal.decreases-is_hex
 decreases-is_hex l = length l.text.now
