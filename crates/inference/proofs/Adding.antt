@@ -1,44 +1,12 @@
--- Group numbers byte by byte, places in a list, and texts put into a buffer. Assumes nothing.
-use Rattle.std.proofs.Common.{◌≡◌, ℕ, zero, suc, ◌+◌, ◌-◌, ◌/◌, ◌%◌, ◌<◌, ◌≤◌, Bool, true, false, cond, eqb, ltb, List, [], ◌∷◌, ◌++◌, length, take, drop, Some, None, Option, refl, sym, ap, ◌∙◌, ap₂, arith, length-append}
+-- Places in a list, and texts put into a buffer. Assumes nothing.
+use Rattle.std.proofs.Common.{◌≡◌, ℕ, suc, ◌+◌, ◌-◌, ◌≤◌, Bool, true, false, cond, eqb, ltb, List, [], ◌∷◌, ◌++◌, length, take, drop, Some, None, Option, refl, ap, ◌∙◌, ap₂, arith}
 use borrow.Rule.Slice.PartMut.{put_mid}
 use Rattle.std.specs.List.{position_or_len}
 use Rattle.std.specs.Option.{unwrap_or}
-use Rattle.std.proofs.lemmas.List.{append_assoc, drop-drop}
+use Rattle.std.proofs.lemmas.List.{drop-drop}
 use Rattle.std.proofs.lemmas.Bool.{ltb-false}
 use Rattle.std.proofs.lemmas.List.Recursion.{is_position_or_len}
-use Rattle.layout.specs.Groups.{group, groups, bound}
-use Rattle.layout.proofs.Groups.{groups_small, groups_more, bound_more}
 use Rattle.typing.specs.Solve.{position}
-
--- a group number of which some bytes are there
-pub record GroupGoes (value : ℕ) (bytes : List ℕ) (rest : ℕ) : Type 0 where
-  pub more : ℕ
-  pub long : length bytes + more ≡ 2
-  pub below : rest < bound more
-  pub is : bytes ++ groups more rest ≡ group value
-
-pub group_first : (value : ℕ) → value < bound 2 → GroupGoes value [] value
-group_first value below = record { more = 2; long = refl; below = below; is = refl }
-
-some_more : (more rest : ℕ) → 128 ≤ rest → rest < bound more → 0 < more
-some_more zero rest large below = absurd (omega arith)
-some_more (suc more) rest large below = omega arith
-
-pub group_short : (value : ℕ) (bytes : List ℕ) (rest : ℕ) → GroupGoes value bytes rest → length bytes ≤ 2
-group_short value bytes rest g = omega (arith, g.long)
-
-pub group_next : (value : ℕ) (bytes : List ℕ) (rest : ℕ) → 128 ≤ rest → GroupGoes value bytes rest → GroupGoes value (bytes ++ (128 + rest % 128) ∷ []) (rest / 128)
-group_next value bytes rest large g =
-    let some = some_more g.more rest large g.below in
-    record {
-      more = g.more - 1;
-      long = omega (arith, g.long, some, length-append bytes ((128 + rest % 128) ∷ []));
-      below = bound_more g.more rest some g.below;
-      is = append_assoc bytes ((128 + rest % 128) ∷ []) (groups (g.more - 1) (rest / 128)) ∙ ap (λ z. bytes ++ z) (sym (groups_more g.more rest some large)) ∙ g.is;
-    }
-
-pub group_last : (value : ℕ) (bytes : List ℕ) (rest : ℕ) → rest < 128 → GroupGoes value bytes rest → bytes ++ rest ∷ [] ≡ group value
-group_last value bytes rest small g = ap (λ z. bytes ++ z) (sym (groups_small g.more rest small)) ∙ g.is
 
 -- the place of a number in a list, which is behind it if it is not there
 pub position_is : (k : ℕ) (xs : List ℕ) → position k xs ≡ position_or_len (eqb k) xs

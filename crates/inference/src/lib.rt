@@ -8,7 +8,6 @@ mod draft;
 mod entries;
 mod entry;
 mod graph;
-mod group;
 mod join;
 mod lay;
 mod meeting;

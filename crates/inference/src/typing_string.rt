@@ -1,13 +1,13 @@
 // The typing string of a node: its status, the counts, and the form if there is one.
 ghost use Rattle.std.specs.Prelude.{◌≡◌, ◌+◌, ◌≤◌, ◌++◌, length, drop};
-ghost use Rattle.layout.specs.Groups as groups;
+ghost use Rattle.layout.specs.Groups.{group};
 ghost use Rattle.typing.specs.Strings.{longest, most};
 ghost use Rattle.inference.specs.Outcomes.{bytes_of};
 ghost use Rattle.inference.specs.TypingStrings.{put_at, string_of};
 
-use crate::group::group;
 use crate::outcome::{Outcome, status};
 use forms::outline::Tally;
+use layout::group::group_bytes;
 
 // Writes bytes into a buffer from a place on; the answer is the place behind them.
 fn put(out: &mut [u8], at: usize, bytes: &[u8]) -> usize
@@ -24,11 +24,11 @@ fn put(out: &mut [u8], at: usize, bytes: &[u8]) -> usize
 fn put_count(out: &mut [u8], at: usize, count: u32) -> usize
     requires held { count ≤ most }
     requires room { at + 2 ≤ length out.old }
-    ensures end { result ≡ at + length (groups.group count) }
+    ensures end { result ≡ at + length (group count) }
     ensures bound { result ≤ at + 2 }
-    ensures wrote { out.new ≡ put_at at (groups.group count) out.old }
+    ensures wrote { out.new ≡ put_at at (group count) out.old }
 {
-    put(out, at, &group(count))
+    put(out, at, &group_bytes(count).unwrap())
 }
 
 // Writes the string at the front of a buffer; the answer is its length.

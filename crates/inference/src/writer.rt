@@ -1,7 +1,6 @@
 // Writing the form that a graph of cells holds, its variables numbered by first appearance.
 ghost use Rattle.std.specs.Prelude.{◌≡◌, ◌<◌, ◌≤◌, [], length};
-ghost use Rattle.layout.specs.Groups as groups;
-ghost use Rattle.layout.specs.Groups.{Group};
+ghost use Rattle.layout.specs.Groups.{Group, group};
 ghost use Rattle.typing.specs.Cells.{readback};
 ghost use Rattle.typing.specs.Posing.{entries_at, form_at};
 ghost use Rattle.typing.specs.Solve.{canonical, position};
@@ -12,9 +11,9 @@ ghost use Rattle.inference.specs.Writings.{Added, EntriesWithin, Writes, WritesA
 
 use crate::entry::Entry;
 use crate::graph::Graph;
-use crate::group::group;
 use crate::script::{FormText, Script};
 use arrayvec::{ArrayVec, CapacityError};
+use layout::group::group_bytes;
 use typing::cell::Cell;
 
 // There is no room for the rest of a form.
@@ -49,9 +48,9 @@ impl Script {
     // Adds a group number, if there is room for it.
     fn push_group(&mut self, value: u32) -> Result<(), TooLong>
         requires { Group value }
-        ensures { Added (groups.group value) self.old self.new result }
+        ensures { Added (group value) self.old self.new result }
     {
-        self.push(&group(value))
+        self.push(&group_bytes(value).unwrap())
     }
 
     // The place of a cell, which is the next one if it has not appeared.
