@@ -3,6 +3,7 @@ use Rattle.std.proofs.Common.{◌≡◌, ℕ, suc, ◌+◌, ◌-◌, ◌*◌, �
 use borrow.Rule.Slice.PartMut.{put_mid}
 use Rattle.std.proofs.lemmas.List.{drop_all, drop_at, drop-drop, length-map, length_push, map_push, take_at, take_rest}
 use Rattle.std.specs.Option.{ok_or}
+use Rattle.std.specs.Result.{result_ok}
 use Rattle.syntax.specs.Arguments.{fits}
 use Rattle.notation.specs.EditAnswers.{Written, Ahead, lines_under}
 use Rattle.notation.specs.Edits.{Put, beneath, edit_lines, edits_from, line_at, path_text}
@@ -216,6 +217,11 @@ unwritten start = record { at_is = refl; holds = refl }
 pub wrote_fits : (text before after : List ℕ) (r : Result ℕ Fault) → length text ≤ length before → Wrote text before after r → (r ≡ Ok (length text)) × (after ≡ text ++ drop (length text) before)
 wrote_fits text before after (Ok n) fit (long, within, is) = (ap Ok long, is)
 wrote_fits text before after (Err fault) fit (which, less, is) = absurd (omega arith)
+
+-- the same where the answer is taken as an option
+pub wrote_some : (text before after : List ℕ) (r : Result ℕ Fault) (n : ℕ) → Some n ≡ result_ok r → Wrote text before after r → (n ≡ length text) × (after ≡ text ++ drop (length text) before)
+wrote_some text before after (Ok m) n e w = let same : n ≡ m = cc in (same ∙ w.0, w.2)
+wrote_some text before after (Err fault) n e w = absurd (let z : ◌≡◌ {A = ℕ} 0 1 = cc in omega arith)
 
 pub written_some : (before text after : List ℕ) (o : Option ℕ) (fault : Fault) → MatchOption o ⊥ (λ n. Written before text n after) → (ok_or o fault ≡ Ok (length text)) × (after ≡ text ++ drop (length text) before)
 written_some before text after (Some n) fault w = (ap Ok w.at_is, w.holds)

@@ -76,11 +76,8 @@ fn write_line(path: &Path, symbol: Symbol, out: &mut [u8], at: usize) -> Option<
     if at > out.len() {
         return None;
     }
-    let end = out.len();
-    match put_line(path, symbol).copy_to(&mut out[at..end]) {
-        Ok(n) => Some(at + n),
-        Err(_) => None,
-    }
+    let n = put_line(path, symbol).copy_to(&mut out[at..]).ok()?;
+    Some(at + n)
 }
 
 // Adds the lines of the next `count` trees of a file, the children from `next` on of the node at a

@@ -10,56 +10,83 @@ use syntax::name::Name;
 
 const X: Argument = Argument::Name(Name([120, 0, 0, 0]));
 
-// The number of a refusal, or 0 where the question is granted; 99 where a refusal left a trace.
-fn outcome(start: u32, kind: Kind, argument: Argument, parts: &[&[u8]], room: usize) -> u8 {
+// What a question comes to.
+#[derive(Clone, Copy, Debug, PartialEq, Eq)]
+enum Outcome {
+    Granted,
+    // Refused under a number, with the meter and the buffer as they were.
+    Refused(u8),
+    // Refused, but something changed; or it could not be put at all.
+    Spoiled,
+}
+
+fn put(start: u32, kind: Kind, argument: Argument, parts: &[&[u8]], room: usize) -> Outcome {
     let Ok(mut names) = Names::new(start) else {
-        return 98;
+        return Outcome::Spoiled;
     };
     let mut out = [7u8; 256];
     if room > out.len() {
-        return 97;
+        return Outcome::Spoiled;
     }
     let before = out;
     match names.ask(kind, argument, parts, &mut out[0..room]) {
-        Ok(_) => 0,
-        Err(fault) if names.meter() == start && out == before => u8::from(fault),
-        Err(_) => 99,
+        Ok(_) => Outcome::Granted,
+        Err(fault) if names.meter() == start && out == before => Outcome::Refused(u8::from(fault)),
+        Err(_) => Outcome::Spoiled,
     }
 }
 
-fn leaf(start: u32, kind: Kind, argument: Argument, room: usize) -> u8 {
+fn leaf(start: u32, kind: Kind, argument: Argument, room: usize) -> Outcome {
     let parts: [&[u8]; 1] = [b"\x03\x00"];
-    outcome(start, kind, argument, &parts[0..0], room)
+    put(start, kind, argument, &parts[0..0], room)
 }
 
-fn one(start: u32, kind: Kind, argument: Argument, part: &[u8], room: usize) -> u8 {
+fn one(start: u32, kind: Kind, argument: Argument, part: &[u8], room: usize) -> Outcome {
     let parts: [&[u8]; 1] = [part];
-    outcome(start, kind, argument, &parts, room)
+    put(start, kind, argument, &parts, room)
 }
 
 // Each fault alone, and with those that come after it.
 #[test]
 fn refusals(rt: HostRuntime) {
-    assert_eq!(rt; leaf(0, Kind::Var, X, 254), 0);
-    assert_eq!(rt; leaf(0, Kind::Var, X, 255), 0);
-    assert_eq!(rt; leaf(MAX_METER - 1, Kind::Var, X, 254), 0);
-    assert_eq!(rt; leaf(0, Kind::Var, Argument::Nothing, 254), 2);
-    assert_eq!(rt; leaf(0, Kind::Hole, X, 254), 2);
+    assert_eq!(rt; leaf(0, Kind::Var, X, 254), Outcome::Granted);
+    assert_eq!(rt; leaf(0, Kind::Var, X, 255), Outcome::Granted);
+    assert_eq!(rt; leaf(MAX_METER - 1, Kind::Var, X, 254), Outcome::Granted);
+    assert_eq!(rt;
+        leaf(0, Kind::Var, Argument::Nothing, 254),
+        Outcome::Refused(2)
+    );
+    assert_eq!(rt; leaf(0, Kind::Hole, X, 254), Outcome::Refused(2));
     assert_eq!(rt;
         leaf(0, Kind::Var, Argument::Name(Name([120, 0, 120, 0])), 254),
-        2
+        Outcome::Refused(2)
     );
-    assert_eq!(rt; leaf(0, Kind::Num, Argument::Number(1_000_000), 254), 2);
-    assert_eq!(rt; one(MAX_METER, Kind::Lam, Argument::Nothing, b"\x05", 0), 2);
-    assert_eq!(rt; leaf(MAX_METER, Kind::Var, X, 254), 9);
-    assert_eq!(rt; one(MAX_METER, Kind::Lam, X, b"\x05", 0), 9);
-    assert_eq!(rt; leaf(0, Kind::Var, X, 253), 10);
-    assert_eq!(rt; leaf(0, Kind::Var, X, 0), 10);
-    assert_eq!(rt; one(0, Kind::Lam, X, b"\x05", 253), 10);
-    assert_eq!(rt; one(0, Kind::Lam, X, b"\x05", 254), 12);
-    assert_eq!(rt; leaf(0, Kind::Lam, X, 254), 12);
-    assert_eq!(rt; one(0, Kind::Var, X, b"\x03\x00", 255), 12);
-    assert_eq!(rt; one(0, Kind::App, Argument::Nothing, b"\x03\x00", 254), 12);
+    assert_eq!(rt;
+        leaf(0, Kind::Num, Argument::Number(1_000_000), 254),
+        Outcome::Refused(2)
+    );
+    assert_eq!(rt;
+        one(MAX_METER, Kind::Lam, Argument::Nothing, b"\x05", 0),
+        Outcome::Refused(2)
+    );
+    assert_eq!(rt; leaf(MAX_METER, Kind::Var, X, 254), Outcome::Refused(9));
+    assert_eq!(rt;
+        one(MAX_METER, Kind::Lam, X, b"\x05", 0),
+        Outcome::Refused(9)
+    );
+    assert_eq!(rt; leaf(0, Kind::Var, X, 253), Outcome::Refused(10));
+    assert_eq!(rt; leaf(0, Kind::Var, X, 0), Outcome::Refused(10));
+    assert_eq!(rt; one(0, Kind::Lam, X, b"\x05", 253), Outcome::Refused(10));
+    assert_eq!(rt; one(0, Kind::Lam, X, b"\x05", 254), Outcome::Refused(12));
+    assert_eq!(rt; leaf(0, Kind::Lam, X, 254), Outcome::Refused(12));
+    assert_eq!(rt;
+        one(0, Kind::Var, X, b"\x03\x00", 255),
+        Outcome::Refused(12)
+    );
+    assert_eq!(rt;
+        one(0, Kind::App, Argument::Nothing, b"\x03\x00", 254),
+        Outcome::Refused(12)
+    );
 }
 
 fn is_lawful(text: &[u8]) -> bool {

@@ -142,10 +142,7 @@ fn sort_of(name: &str) -> anyhow::Result<Sort> {
 }
 
 fn field(rt: &HostRuntime, sort: &str, text: Option<&str>) -> anyhow::Result<()> {
-    let text = match text {
-        Some(text) => Some(text.as_bytes()),
-        None => None,
-    };
+    let text = text.map(|text| text.as_bytes());
     let mut out = buffer(rt.alloc(), "8")?;
     match parse_argument(sort_of(sort)?, text) {
         Ok(argument) => {
