@@ -10,11 +10,6 @@ returns-then-owed-rest c = owed_short _ _ _ _ _ c.loop-owed.invariant c.if-owed-
 pub returns-in_err-symbol : goal.returns-in_err-symbol
 returns-in_err-symbol c = rw c.from_residual.ensures (owed_missing _ _ _ _ _ c.loop-owed.invariant c.loop-owed-test.true c.in_err-symbol.ensures)
 
-pub loop-owed-smaller : goal.loop-owed-smaller
-loop-owed-smaller c =
-    let (fit, front) = c.in_ok-symbol.ensures in
-    omega (arith, ap length front ∙ length-append (symbol_bytes c.in_ok-symbol.symbol) c.in_ok-symbol.after.now, symbol_some c.in_ok-symbol.symbol)
-
 pub loop-owed-preserved : goal.loop-owed-preserved
 loop-owed-preserved c =
     let (fit, front) = c.in_ok-symbol.ensures in

@@ -3,9 +3,6 @@ use Rattle.notation.specs.Texts.{text_of}
 use Rattle.notation.proofs.EditLines.{adds_made, at_within, wrote_some}
 use Rattle.notation.proofs.edit_lines.write_line.Goals as goal
 
-pub returns-then-at-out : goal.returns-then-at-out
-returns-then-at-out c start text w room = omega (arith, at_within start text _ _ w (omega arith))
-
 pub returns : goal.returns
 returns c start text w room =
     let (long, after) = wrote_some (text_of c.put_line.result) _ _ c.copy_to.result c.in_ok-n.n c.in_ok-n.ensures.value c.copy_to.ensures in

@@ -3,23 +3,6 @@ use Rattle.question.specs.Digits.{unhex}
 use Rattle.question.proofs.HexTexts.{string_pairs, pair_from, front_more, front_ends}
 use Rattle.question.proofs.digits.unhex.Goals as goal
 
-pub loop-pair-init : goal.loop-pair-init
-loop-pair-init c = (
-  ap (λ z. z ++ unhex c.args.text.now) c.new-bytes.ensures,
-  omega (arith, ap length c.new-bytes.ensures),
-  string_pairs c.args.text.now c.requires.string,
-)
-
-pub worth-requires : goal.worth-requires
-worth-requires c =
-    let cut = c.in-Some.ensures.cases in
-    (pair_from c.loop-pair.rest.now c.in-Some.pair.now c.in-Some.after.now cut.0 cut.1 cut.2 c.loop-pair.invariant.2).high
-
-pub worth-requires-in-Some : goal.worth-requires-in-Some
-worth-requires-in-Some c =
-    let cut = c.in-Some.ensures.cases in
-    (pair_from c.loop-pair.rest.now c.in-Some.pair.now c.in-Some.after.now cut.0 cut.1 cut.2 c.loop-pair.invariant.2).low
-
 pub loop-pair-preserved : goal.loop-pair-preserved
 loop-pair-preserved c =
     let cut = c.in-Some.ensures.cases in
@@ -31,6 +14,3 @@ loop-pair-preserved c =
       omega (arith, cut.2, c.push.ensures.len),
       pair.more,
     )
-
-pub returns : goal.returns
-returns c = front_ends _ c.loop-pair.rest.now _ c.in_default.ensures.cases c.loop-pair.invariant.0

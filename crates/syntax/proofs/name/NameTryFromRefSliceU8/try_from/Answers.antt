@@ -5,15 +5,6 @@ use Rattle.syntax.proofs.Letters.{named, padded_copy, padded_back, padded_name}
 use Rattle.syntax.proofs.name.NameTryFromRefSliceU8.try_from.Goals as goal
 use Rattle.syntax.proofs.name.NameTryFromRefSliceU8.try_from.Goals.{else-is_valid-via-then-is_valid+else-len-text, else-is_valid-via-else-is_valid}
 
-pub returns-then-text-gt-MAX_LETTERS : goal.returns-then-text-gt-MAX_LETTERS
-returns-then-text-gt-MAX_LETTERS c = (refl, λ n is. omega (arith, ap length is.1, (named n.0 is.0).few))
-
-pub returns-then-len-text : goal.returns-then-len-text
-returns-then-len-text c = (
-  sym c.if-is_valid.ensures,
-  padded_back _ _ (padded_copy _ _ c.copy_from_slice.ensures.after) (sym c.len.ensures.value ∙ c.if-len-text.true),
-)
-
 pub returns-else-is_valid : goal.returns-else-is_valid
 returns-else-is_valid c = (
   refl,
