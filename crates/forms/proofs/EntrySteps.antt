@@ -1,11 +1,9 @@
 -- Reading entries with the terms forgotten: one after the other. Assumes nothing.
-use Rattle.std.proofs.Common.{◌≡◌, ℕ, suc, ◌+◌, ◌-◌, ◌<◌, ◌≤◌, Bool, true, false, ◌&&◌, ltb, List, [], ◌∷◌, length, take, drop, Some, None, Option, sym, refl, ap, ◌∙◌, ap₂, arith}
-use Rattle.std.proofs.lemmas.List.{length-take}
-use Rattle.std.proofs.lemmas.Bool.{ne_eqb}
+use Rattle.std.proofs.Common.{◌≡◌, ℕ, suc, ◌+◌, ◌-◌, ◌<◌, ◌≤◌, Bool, true, false, ◌&&◌, List, [], ◌∷◌, length, take, drop, Some, None, Option, sym, refl, ap, ◌∙◌, ap₂, arith}
 use Rattle.std.specs.Cmp.Lexicographic.{slice_partial_cmp}
 use Rattle.std.specs.Option.{option_partial_cmp}
 use Rattle.std.specs.Ordering.{nat_cmp, partial_lt}
-use Rattle.syntax.specs.Names.{is_name, letters, blank}
+use Rattle.syntax.specs.Names.{is_name}
 use Rattle.syntax.specs.declared.name.Name as name
 use Rattle.typing.specs.Forms.{Name}
 use Rattle.typing.specs.Heads.{Sort, type}
@@ -23,12 +21,6 @@ after_last None n r valid is = is ∙ some_letters n.0 valid
     some_letters : (bs : List ℕ) → true ≡ is_name bs → true ≡ before [] bs
     some_letters [] valid = valid
     some_letters (b ∷ bs) valid = refl
-
--- fewer than four bytes are no name
-pub too_short : (last : Name) (bs : List ℕ) → length bs < 4 → is_next last bs ≡ false
-too_short last bs short =
-    let long = length-take 4 bs in
-    ap (λ b. b && ltb 0 (length (letters (take 4 bs))) && blank (drop (length (letters (take 4 bs))) (take 4 bs)) && before last (take 4 bs)) (ne_eqb (length (take 4 bs)) 4 (λ e. omega (arith, long, short, e)))
 
 module _ (last : Name) (bs name : List ℕ) (is : name ≡ take 4 bs) where
   pub no_name : false ≡ is_name name → is_next last bs ≡ false

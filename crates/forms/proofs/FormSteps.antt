@@ -55,11 +55,7 @@ reach_above n (k ∷ ks) = let ih = reach_above (max n (k + 1)) ks in omega (ari
 whole_is : (end : ℕ) (F : Form) (n v e t : ℕ) → length F.entries ≡ n → width F ≡ v → length (entries_bytes F.entries) + length (term_bytes F.result) ≡ e → length (term_bytes F.result) ≡ t → ◌≡◌ {A = Result FormOutline Fault} (Ok (record { open_names = n; variables = v; entries_at = end - e; type_at = end - t })) (whole end (Some F))
 whole_is end F n v e t en ev ee et = cc
 
--- a form is what stands behind the status 0
-pub status_form : (end : ℕ) (o : Option Form) (x : FormOutline) → Ok x ≡ whole end o → ◌≡◌ {A = Result (Result FormOutline Untyped) Fault} (Ok (Ok x)) (shaped end (and_then o (λ F. Some (formed F))))
-status_form end None x is = absurd (let z : ◌≡◌ {A = ℕ} 0 1 = cc in omega (arith, z))
-status_form end (Some F) x is = cc
-
+-- the status 0 with no form behind it is refused
 pub status_no_form : (end : ℕ) (o : Option Form) (fault : Fault) → Err fault ≡ whole end o → ◌≡◌ {A = Result (Result FormOutline Untyped) Fault} (Err fault) (shaped end (and_then o (λ F. Some (formed F))))
 status_no_form end None fault is = cc
 status_no_form end (Some F) fault is = absurd (let z : ◌≡◌ {A = ℕ} 0 1 = cc in omega (arith, z))

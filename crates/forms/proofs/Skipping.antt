@@ -1,5 +1,5 @@
 -- Reading terms with the terms forgotten: one term after the other, whatever the fuel. Assumes nothing.
-use Rattle.std.proofs.Common.{◌≡◌, ℕ, zero, suc, ◌+◌, ◌-◌, ◌*◌, ◌<◌, ◌≤◌, Bool, true, false, cond, ltb, List, [], ◌∷◌, length, replicate, Some, None, Ok, Err, Option, Result, sym, refl, ap, ◌∙◌, subst, arith}
+use Rattle.std.proofs.Common.{◌≡◌, ℕ, zero, suc, ◌+◌, ◌-◌, ◌*◌, ◌<◌, ◌≤◌, Bool, true, false, cond, ltb, List, [], ◌∷◌, length, replicate, Some, None, Option, Result, sym, refl, ap, ◌∙◌, subst, arith}
 use Rattle.syntax.specs.declared.fault.Fault.{Fault}
 use Rattle.typing.specs.Heads.{Sort, result_of, parts_of, head_of, head_or, meaning_of}
 use Rattle.typing.specs.Parsing.{and_then, only_if, read_group, same_sort, meet_variable, Read, read_head, read_terms}
@@ -9,7 +9,7 @@ use Rattle.typing.specs.declared.head.Token.{Token}
 use Rattle.typing.specs.declared.head.Token.TheVariants.{Head as OfHead}
 use Rattle.typing.proofs.GroupReading.{then_some, if_some, pair_parts}
 use Rattle.typing.proofs.TermsRead.{triple_parts}
-use Rattle.forms.specs.Skips.{Behind, Met, Skipped, forget, skip_terms, skip_token}
+use Rattle.forms.specs.Skips.{Behind, Skipped, forget, skip_terms, skip_token}
 
 pub then_cong : {A B : Type 0} (o : Option A) (f g : A → Option B) → ((a : A) → o ≡ Some a → f a ≡ g a) → and_then o f ≡ and_then o g
 then_cong None f g each = refl
@@ -138,11 +138,6 @@ module _ (s : Sort) (seen : List Sort) (bs : List ℕ) where
 
   pub skip_stop : (ss : List Sort) → skip_terms (s ∷ []) seen bs ≡ None → skip_terms (s ∷ ss) seen bs ≡ None
   skip_stop ss is = skip_cons ss ∙ ap (λ o. and_then o (λ p. skip_terms ss p.0 p.1)) is
-
--- a variable is the whole of a term
-pub skipped_variable : (o : Option Behind) (m : Option (List Sort)) (bs : List ℕ) (b : Behind) (r : Result (Unit {0}) Fault) → o ≡ and_then m (λ now. Some (now, bs)) → Met m bs b r → Skipped o b r
-skipped_variable o m bs b (Ok u) is met = is ∙ ap (λ x. and_then x (λ now. Some (now, bs))) met.0 ∙ ap (λ rest. Some (b.0, rest)) (sym met.1)
-skipped_variable o m bs b (Err fault) is met = (met.0, is ∙ ap (λ x. and_then x (λ now. Some (now, bs))) met.1)
 
 -- places still to be read, of which there are some
 pub places_left : {A : Type 0} (a : A) (n i : ℕ) → i < n → replicate (n - i) a ≡ a ∷ replicate (n - (i + 1)) a

@@ -1,5 +1,5 @@
 -- Adding the form of a child to a draft, off the bytes that spell it. Assumes nothing.
-use Rattle.std.proofs.Common.{◌≡◌, ℕ, ◌-◌, ◌<◌, List, [], ◌∷◌, ◌++◌, length, get_or, drop, Ok, Result, sym, refl, ap, ◌∙◌, subst, ap₂, arith, length-append, Bor}
+use Rattle.std.proofs.Common.{◌≡◌, ℕ, ◌-◌, List, [], ◌∷◌, ◌++◌, length, Ok, Result, sym, refl, ap, ◌∙◌, subst, ap₂, arith, Bor}
 use Rattle.std.proofs.lemmas.List.{append_assoc, append-nil}
 use Rattle.syntax.specs.declared.fault.Fault.{Fault}
 use Rattle.syntax.specs.declared.name.Name as name
@@ -14,20 +14,6 @@ use Rattle.inference.specs.Layouts.{Legible, shift}
 use Rattle.inference.proofs.DraftSteps.{grows_put, grows_entries, grows_lay, grows_more, roomy_before}
 
 -- names
-pub name_short : (bytes : List ℕ) (n rest : List ℕ) → length bytes < 4 → length n ≡ 4 → bytes ≡ n ++ rest → ⊥
-name_short bytes n rest short long is = omega (arith, short, long, ap length is, length-append n rest)
-
-pub name_read : (bytes : List ℕ) (n rest : List ℕ) → length n ≡ 4 → bytes ≡ n ++ rest → (get_or bytes 0 0 ∷ get_or bytes 1 0 ∷ get_or bytes 2 0 ∷ get_or bytes 3 0 ∷ [] ≡ n) × (drop 4 bytes ≡ rest)
-name_read bytes n rest long is = subst (λ bs. (get_or bs 0 0 ∷ get_or bs 1 0 ∷ get_or bs 2 0 ∷ get_or bs 3 0 ∷ [] ≡ n) × (drop 4 bs ≡ rest)) (sym is) (four n long)
-  where
-    four : (m : List ℕ) → length m ≡ 4 → (get_or (m ++ rest) 0 0 ∷ get_or (m ++ rest) 1 0 ∷ get_or (m ++ rest) 2 0 ∷ get_or (m ++ rest) 3 0 ∷ [] ≡ m) × (drop 4 (m ++ rest) ≡ rest)
-    four [] l = absurd (omega (arith, l))
-    four (a ∷ []) l = absurd (omega (arith, l))
-    four (a ∷ b ∷ []) l = absurd (omega (arith, l))
-    four (a ∷ b ∷ c ∷ []) l = absurd (omega (arith, l))
-    four (a ∷ b ∷ c ∷ d ∷ []) l = (refl, refl)
-    four (a ∷ b ∷ c ∷ d ∷ e ∷ m) l = absurd (omega (arith, l))
-
 entry_apart : (e : Name × Term) (es : List (Name × Term)) (rest bytes : List ℕ) → bytes ≡ entries_bytes (e ∷ es) ++ rest → bytes ≡ e.0 ++ (term_bytes e.1 ++ (entries_bytes es ++ rest))
 entry_apart e es rest bytes is =
     is ∙ append_assoc e.0 (term_bytes e.1 ++ entries_bytes es) rest ∙ ap (λ bs. e.0 ++ bs) (append_assoc (term_bytes e.1) (entries_bytes es) rest)

@@ -14,6 +14,7 @@ use Rattle.inference.specs.Drafts.{State, add_entries, add_form, unknowns, Roomy
 use Rattle.inference.specs.Joins.{AddsChild, AddsAll, AllRead, Begins, all_at, forms_of, width_in}
 use Rattle.inference.specs.Layouts.{shift}
 use Rattle.inference.specs.Posed.{spare}
+use Rattle.inference.specs.declared.base.Base.{Base}
 use Rattle.inference.proofs.ChildFacts.{width_in_lem}
 use Rattle.inference.proofs.DraftSteps.{Grows, grows_entries, grows_lay, grows_more, roomy_before}
 
@@ -23,14 +24,14 @@ grows_form base F S =
     grows_more S E (add_form base F S).0 (grows_entries base F.entries S) (grows_lay (shift base F.result) E)
 
 -- no child is left
-pub no_child : (base : ℕ) (ss : List (List ℕ)) (S' : State) (types : List ℕ) → ss ≡ [] → S' ≡ unknowns (base + spare) → AddsAll base ss S' types (Ok base)
-no_child base ss S' types none is = subst (λ xs. AddsAll base xs S' types (Ok base)) (sym none) end
+pub no_child : (b : Base) (ss : List (List ℕ)) (S' : State) (types : List ℕ) → ss ≡ [] → S' ≡ unknowns (b.cell + spare) → AddsAll b.cell ss S' types (Ok b)
+no_child b ss S' types none is = subst (λ xs. AddsAll b.cell xs S' types (Ok b)) (sym none) end
   where
-    end : AddsAll base [] S' types (Ok base)
+    end : AddsAll b.cell [] S' types (Ok b)
     end [] read roomy = (refl, is, tt)
     end (T ∷ Ts) read roomy = absurd read
 
-pub no_free : (base : ℕ) (ss : List (List ℕ)) (S' : State) (types : List ℕ) (r : Result ℕ Fault) → ss ≡ [] → (Roomy (unknowns (base + spare)) → ⊥) → AddsAll base ss S' types r
+pub no_free : (base : ℕ) (ss : List (List ℕ)) (S' : State) (types : List ℕ) (r : Result Base Fault) → ss ≡ [] → (Roomy (unknowns (base + spare)) → ⊥) → AddsAll base ss S' types r
 no_free base ss S' types r none full = subst (λ xs. AddsAll base xs S' types r) (sym none) end
   where
     end : AddsAll base [] S' types r
@@ -39,15 +40,15 @@ no_free base ss S' types r none full = subst (λ xs. AddsAll base xs S' types r)
 
 module _ (base : ℕ) (whole : List (List ℕ)) (text : List ℕ) (ss : List (List ℕ)) (split : whole ≡ text ∷ ss) where
   -- what holds of a string before others holds of the whole
-  of_whole : (S' : State) (types : List ℕ) (r : Result ℕ Fault) → AddsAll base (text ∷ ss) S' types r → AddsAll base whole S' types r
+  of_whole : (S' : State) (types : List ℕ) (r : Result Base Fault) → AddsAll base (text ∷ ss) S' types r → AddsAll base whole S' types r
   of_whole S' types r adds = subst (λ xs. AddsAll base xs S' types r) (sym split) adds
 
-  first_no_outline : (S' : State) (types : List ℕ) (r : Result ℕ Fault) (fault : Fault) → outlined (read_typing 4 text) ≡ Err fault → AddsAll base (text ∷ ss) S' types r
+  first_no_outline : (S' : State) (types : List ℕ) (r : Result Base Fault) (fault : Fault) → outlined (read_typing 4 text) ≡ Err fault → AddsAll base (text ∷ ss) S' types r
   first_no_outline S' types r fault is [] read roomy = absurd read
   first_no_outline S' types r fault is (T ∷ Ts) read roomy =
       absurd (let e : Ok (outline_of T) ≡ Err fault = sym (ap outlined read.0) ∙ is in let z : ◌≡◌ {A = ℕ} 0 1 = cc in omega (arith, z))
 
-  pub no_outline : (S' : State) (types : List ℕ) (r : Result ℕ Fault) (fault : Fault) → outlined (read_typing 4 text) ≡ Err fault → AddsAll base whole S' types r
+  pub no_outline : (S' : State) (types : List ℕ) (r : Result Base Fault) (fault : Fault) → outlined (read_typing 4 text) ≡ Err fault → AddsAll base whole S' types r
   no_outline S' types r fault is = of_whole S' types r (first_no_outline S' types r fault is)
 
   module _ (x : Outline) (is : outlined (read_typing 4 text) ≡ Ok x) (next : ℕ) (next-is : next ≡ base + width_in x) where
@@ -62,14 +63,14 @@ module _ (base : ℕ) (whole : List (List ℕ)) (text : List ℕ) (ss : List (Li
         let R = (all_at w (forms_of Ts)).0 in
         subst (λ n. Roomy (all_at n (forms_of Ts)).0) (sym (next_of T read)) (roomy_before R (add_form base (form_of T.status) R).0 (grows_form base (form_of T.status) R) roomy)
 
-    first_no_later : (S' : State) (types : List ℕ) (r : Result ℕ Fault) → ((Ts : List Typing) → AllRead ss Ts → Roomy (all_at next (forms_of Ts)).0 → ⊥) → AddsAll base (text ∷ ss) S' types r
+    first_no_later : (S' : State) (types : List ℕ) (r : Result Base Fault) → ((Ts : List Typing) → AllRead ss Ts → Roomy (all_at next (forms_of Ts)).0 → ⊥) → AddsAll base (text ∷ ss) S' types r
     first_no_later S' types r none [] read roomy = absurd read
     first_no_later S' types r none (T ∷ Ts) read roomy = absurd (none Ts read.1 (rest_roomy T Ts read.0 roomy))
 
-    pub no_later : (S' : State) (types : List ℕ) (r : Result ℕ Fault) → ((Ts : List Typing) → AllRead ss Ts → Roomy (all_at next (forms_of Ts)).0 → ⊥) → AddsAll base whole S' types r
+    pub no_later : (S' : State) (types : List ℕ) (r : Result Base Fault) → ((Ts : List Typing) → AllRead ss Ts → Roomy (all_at next (forms_of Ts)).0 → ⊥) → AddsAll base whole S' types r
     no_later S' types r none = of_whole S' types r (first_no_later S' types r none)
 
-    module _ (fresh : ℕ) (S₁ : State) (types₁ : List ℕ) (later : AddsAll next ss S₁ types₁ (Ok fresh)) where
+    module _ (fresh : Base) (S₁ : State) (types₁ : List ℕ) (later : AddsAll next ss S₁ types₁ (Ok fresh)) where
       child_room : (T : Typing) (Ts : List Typing) → read_typing 4 text ≡ Some T → AllRead ss Ts → Roomy (all_at base (forms_of (T ∷ Ts))).0 → (S₁ ≡ (all_at (base + width (form_of T.status)) (forms_of Ts)).0) × Roomy (add_form base (form_of T.status) S₁).0
       child_room T Ts one others roomy =
           let l = later Ts others (rest_roomy T Ts one roomy) in
@@ -77,7 +78,7 @@ module _ (base : ℕ) (whole : List (List ℕ)) (text : List ℕ) (ss : List (Li
           let state : S₁ ≡ (all_at w (forms_of Ts)).0 = l.1 ∙ ap (λ n. (all_at n (forms_of Ts)).0) (next_of T one) in
           (state, subst (λ S. Roomy (add_form base (form_of T.status) S).0) (sym state) roomy)
 
-      first_no_cell : (S' : State) (types : List ℕ) (r : Result ℕ Fault) → ((T : Typing) → read_typing 4 text ≡ Some T → Roomy (add_form base (form_of T.status) S₁).0 → ⊥) → AddsAll base (text ∷ ss) S' types r
+      first_no_cell : (S' : State) (types : List ℕ) (r : Result Base Fault) → ((T : Typing) → read_typing 4 text ≡ Some T → Roomy (add_form base (form_of T.status) S₁).0 → ⊥) → AddsAll base (text ∷ ss) S' types r
       first_no_cell S' types r none [] read roomy = absurd read
       first_no_cell S' types r none (T ∷ Ts) read roomy = absurd (none T read.0 (child_room T Ts read.0 read.1 roomy).1)
 
@@ -92,7 +93,7 @@ module _ (base : ℕ) (whole : List (List ℕ)) (text : List ℕ) (ss : List (Li
           let n = next_of T read.0 in
           (l.0 ∙ ap (λ k. (joined k (forms_of Ts)).unknowns) n, a.0 ∙ ap (λ S. (add_form base F S).0) room.0, (a.1 ∙ ap (λ S. (add_form base F S).1) room.0, subst (λ k. Begins (all_at k (forms_of Ts)).1 types₁) n l.2))
 
-      pub no_cell : (S' : State) (types : List ℕ) (r : Result ℕ Fault) → ((T : Typing) → read_typing 4 text ≡ Some T → Roomy (add_form base (form_of T.status) S₁).0 → ⊥) → AddsAll base whole S' types r
+      pub no_cell : (S' : State) (types : List ℕ) (r : Result Base Fault) → ((T : Typing) → read_typing 4 text ≡ Some T → Roomy (add_form base (form_of T.status) S₁).0 → ⊥) → AddsAll base whole S' types r
       no_cell S' types r none = of_whole S' types r (first_no_cell S' types r none)
 
       pub child_more : (S' : State) (cell : ℕ) (types : List ℕ) → types ≡ cell ∷ types₁ → AddsChild base text S₁ S' (Ok cell) → AddsAll base whole S' types (Ok fresh)

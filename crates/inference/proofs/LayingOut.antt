@@ -17,7 +17,7 @@ use Rattle.typing.proofs.Meanings.{head_meant, variable_meant}
 use Rattle.typing.proofs.Records.{EachSorted, fill_applied}
 use Rattle.typing.proofs.TermReading.{Made, take_apart, applied_bytes, group_long}
 use Rattle.typing.proofs.TermReading as reading
-use Rattle.inference.specs.Layouts.{Answer, Legible, EachLegible, terms_bytes, shift, Out, LaysTerm, LaysParts, Takes}
+use Rattle.inference.specs.Layouts.{Answer, Legible, EachLegible, terms_bytes, shift, Out, LaysHead, LaysTerm, LaysParts, Takes}
 use Rattle.inference.specs.Tables.{most_cells}
 
 abbrev Good : ℕ → Sort → Type 0
@@ -124,8 +124,8 @@ var_no_head : (k : ℕ) → head_of (5 + k) ≡ None
 var_no_head k = let e : 5 + k ≡ suc (suc (suc (suc (suc k)))) = omega arith in ap head_of e
 
 -- a head's parts are laid out behind it
-pub lays_head : (base : ℕ) (bytes : List ℕ) (g g₁ g' : Graph) (token : ℕ) (behind : Bor (List ℕ)) (h : Head) (cell count : ℕ) (r : Answer) → Read bytes token behind.now → OfHead h ≡ meaning_of token → count ≡ length (parts_of 4 h) → cell ≡ length g → g₁ ≡ g ++ atom h ∷ [] → LaysParts base cell count behind.now g₁ g' r → LaysTerm base bytes g g' r
-lays_head base bytes g g₁ g' token behind h cell count r read means counted at-end pushed lays s t rest legible is fits = by_front (front s t rest bytes legible is)
+pub lays_head : (base : ℕ) (bytes : List ℕ) (g g' : Graph) (token : ℕ) (behind : Bor (List ℕ)) (h : Head) (r : Answer) → Read bytes token behind.now → OfHead h ≡ meaning_of token → LaysHead base h behind.now g g' r → LaysTerm base bytes g g' r
+lays_head base bytes g g' token behind h r read means lays s t rest legible is fits = by_front (front s t rest bytes legible is)
   where
     by_front : Front t rest bytes → Out (shift base t) rest g g' r
     by_front (is_var k e good at) =
@@ -135,8 +135,16 @@ lays_head base bytes g g₁ g' token behind h cell count r read means counted at
         let q = one_token bytes token (token_of top) behind.now (terms_bytes ts ++ rest) read (token_group top) at in
         let same : top ≡ h = let z : Some top ≡ Some h = sym (head_back top) ∙ ap head_of (sym q.0) ∙ head_meant token h means in cc in
         let whole : shift base t ≡ applied (head h) (map (shift base) ts) = ap (shift base) (e ∙ ap (λ x. applied (head x) ts) same) ∙ fill_applied (λ k. var (base + k)) (head h) ts in
-        let out = lays g (head h) ts rest pushed at-end (long ∙ ap (λ x. length (parts_of 4 x)) same ∙ sym counted) each q.1 (subst (λ u. length (lay u g).0 ≤ most_cells) whole fits) in
+        let out = lays ts rest (long ∙ ap (λ x. length (parts_of 4 x)) same) each q.1 (subst (λ u. length (lay u g).0 ≤ most_cells) whole fits) in
         subst (λ u. Out u rest g g' r) (sym whole) out
+
+pub head_lays : (base : ℕ) (h : Head) (bytes : List ℕ) (g g₁ g' : Graph) (cell count : ℕ) (r : Answer) → count ≡ length (parts_of 4 h) → cell ≡ length g → g₁ ≡ g ++ atom h ∷ [] → LaysParts base cell count bytes g₁ g' r → LaysHead base h bytes g g' r
+head_lays base h bytes g g₁ g' cell count r counted at-end pushed lays ts rest long each is fits =
+    lays g (head h) ts rest pushed at-end (long ∙ sym counted) each is fits
+
+pub head_full : (base : ℕ) (h : Head) (bytes : List ℕ) (g g' : Graph) (r : Answer) → most_cells ≤ length g → LaysHead base h bytes g g' r
+head_full base h bytes g g' r full ts rest long each is fits =
+    absurd (omega (arith, fits, full, applied_longer (map (shift base) ts) (head h) g, length_push g (atom h)))
 
 pub lays_none : (base cell : ℕ) (bytes : Bor (List ℕ)) (g : Graph) (count : ℕ) → count ≡ 0 → LaysParts base cell count bytes.now g g (Ok (cell, bytes))
 lays_none base cell bytes g count none g₀ f [] rest is at long each spelled fits = (is, at, spelled)
@@ -150,14 +158,14 @@ no_part base cell count bytes g g' r some none g₀ f [] rest is at long each sp
 no_part base cell count bytes g g' r some none g₀ f (t ∷ ts) rest is at long each spelled fits =
     absurd (none each.0.0 t (terms_bytes ts ++ rest) each.0.1 (spelled ∙ append_assoc (term_bytes t) (terms_bytes ts) rest) (subst (λ x. length (lay (shift base t) x).0 ≤ most_cells) (sym is) (omega (arith, part_fits base t ts f g₀ fits))))
 
-pub lays_more : (base cell count applied-to : ℕ) (bytes : List ℕ) (behind : Bor (List ℕ)) (g g₁ g₂ g' : Graph) (part : ℕ) (r : Answer) → (count ≡ 0 → ⊥) → LaysTerm base bytes g g₁ (Ok (part, behind)) → applied-to ≡ length g₁ → g₂ ≡ g₁ ++ apply cell part ∷ [] → LaysParts base applied-to (count - 1) behind.now g₂ g' r → LaysParts base cell count bytes g g' r
-lays_more base cell count applied-to bytes behind g g₁ g₂ g' part r some one at-end pushed rest-lays g₀ f [] rest is at long each spelled fits = absurd (some (sym long))
-lays_more base cell count applied-to bytes behind g g₁ g₂ g' part r some one at-end pushed rest-lays g₀ f (t ∷ ts) rest is at long each spelled fits =
+pub lays_more : (base cell count left applied-to : ℕ) (bytes : List ℕ) (behind : Bor (List ℕ)) (g g₁ g₂ g' : Graph) (part : ℕ) (r : Answer) → count ≡ left + 1 → LaysTerm base bytes g g₁ (Ok (part, behind)) → applied-to ≡ length g₁ → g₂ ≡ g₁ ++ apply cell part ∷ [] → LaysParts base applied-to left behind.now g₂ g' r → LaysParts base cell count bytes g g' r
+lays_more base cell count left applied-to bytes behind g g₁ g₂ g' part r some one at-end pushed rest-lays g₀ f [] rest is at long each spelled fits = absurd (omega (arith, long, some))
+lays_more base cell count left applied-to bytes behind g g₁ g₂ g' part r some one at-end pushed rest-lays g₀ f (t ∷ ts) rest is at long each spelled fits =
     let room = part_fits base t ts f g₀ fits in
     let o = one each.0.0 t (terms_bytes ts ++ rest) each.0.1 (spelled ∙ append_assoc (term_bytes t) (terms_bytes ts) rest) (subst (λ x. length (lay (shift base t) x).0 ≤ most_cells) (sym is) (omega (arith, room))) in
     let g₁_is : g₁ ≡ (lay (shift base t) (lay f g₀).0).0 = o.0 ∙ ap (λ x. (lay (shift base t) x).0) is in
     let part_is : part ≡ (lay (shift base t) (lay f g₀).0).1 = o.1 ∙ ap (λ x. (lay (shift base t) x).1) is in
-    rest-lays g₀ (f · shift base t) ts rest (pushed ∙ ap₂ (λ (x : Graph) c. x ++ c ∷ []) g₁_is (ap₂ apply at part_is)) (at-end ∙ ap length g₁_is) (omega (arith, long)) each.1 o.2 fits
+    rest-lays g₀ (f · shift base t) ts rest (pushed ∙ ap₂ (λ (x : Graph) c. x ++ c ∷ []) g₁_is (ap₂ apply at part_is)) (at-end ∙ ap length g₁_is) (omega (arith, long, some)) each.1 o.2 fits
 
 -- a part for which there was no room
 pub part_full : (base cell count : ℕ) (bytes : List ℕ) (behind : Bor (List ℕ)) (g g₁ g' : Graph) (part : ℕ) (r : Answer) → (count ≡ 0 → ⊥) → LaysTerm base bytes g g₁ (Ok (part, behind)) → most_cells ≤ length g₁ → LaysParts base cell count bytes g g' r
@@ -166,18 +174,6 @@ part_full base cell count bytes behind g g₁ g' part r some one full g₀ f (t 
     let room = part_fits base t ts f g₀ fits in
     let o = one each.0.0 t (terms_bytes ts ++ rest) each.0.1 (spelled ∙ append_assoc (term_bytes t) (terms_bytes ts) rest) (subst (λ x. length (lay (shift base t) x).0 ≤ most_cells) (sym is) (omega (arith, room))) in
     absurd (omega (arith, room, full, ap length (o.0 ∙ ap (λ x. (lay (shift base t) x).0) is)))
-
-pub head_full : (base : ℕ) (bytes : List ℕ) (g g' : Graph) (token : ℕ) (behind : Bor (List ℕ)) (h : Head) (r : Answer) → Read bytes token behind.now → OfHead h ≡ meaning_of token → most_cells ≤ length g → LaysTerm base bytes g g' r
-head_full base bytes g g' token behind h r read means full s t rest legible is fits = by_front (front s t rest bytes legible is)
-  where
-    by_front : Front t rest bytes → Out (shift base t) rest g g' r
-    by_front (is_var k e good at) =
-        let q = one_token bytes token (5 + k) behind.now rest read good at in
-        none_some (head_of token) h (ap head_of q.0 ∙ var_no_head k) (head_meant token h means)
-    by_front (is_head top ts e each long at) =
-        let whole : shift base t ≡ applied (head top) (map (shift base) ts) = ap (shift base) e ∙ fill_applied (λ k. var (base + k)) (head top) ts in
-        let longer = applied_longer (map (shift base) ts) (head top) g in
-        absurd (omega (arith, fits, full, longer, length_push g (atom top), ap (λ u. length (lay u g).0) whole))
 
 pub takes_fault : (some : ℕ) (bytes : List ℕ) (r : Answer) → is_err r ≡ true → Takes some bytes r
 takes_fault some bytes (Ok p) is = absurd (both_ways false refl is)

@@ -1,6 +1,6 @@
 -- A node over lawful strings: its draft is ready, and what it comes to is the rule's. Assumes nothing.
-use Rattle.std.proofs.Common.{◌≡◌, ℕ, zero, suc, ◌+◌, ◌<◌, ◌≤◌, min, List, [], ◌∷◌, ◌++◌, length, drop, replicate, sym, refl, ap, ◌∙◌, subst, ap₂, arith}
-use Rattle.std.proofs.lemmas.List.{length-map, length-replicate}
+use Rattle.std.proofs.Common.{◌≡◌, ℕ, zero, suc, ◌+◌, ◌<◌, ◌≤◌, min, List, [], ◌∷◌, ◌++◌, length, drop, sym, refl, ap, ◌∙◌, subst, ap₂, arith}
+use Rattle.std.proofs.lemmas.List.{length-map}
 use Rattle.syntax.specs.Kinds.{arity}
 use Rattle.syntax.specs.declared.argument.Argument.{Argument}
 use Rattle.syntax.specs.declared.argument.Symbol.{Symbol}
@@ -13,10 +13,8 @@ use Rattle.typing.specs.Posing.{finished_at}
 use Rattle.typing.specs.Solve.{solve}
 use Rattle.typing.specs.Strings.{Typing, most}
 use Rattle.typing.specs.Typings.{is_hole, rule}
-use Rattle.typing.specs.declared.cell.Cell.TheVariants.{Free as free}
 use Rattle.typing.proofs.NodeRule.{ruled, typings_children}
 use Rattle.typing.proofs.Posing.{any_graph_solves}
-use Rattle.typing.proofs.Solving.{free_tidy}
 use Rattle.inference.specs.Drafts.{State, unknowns, Roomy}
 use Rattle.inference.specs.Joins.{Begins, all_at, forms_of}
 use Rattle.inference.specs.Nodes.{Ready, Lawful}
@@ -25,7 +23,6 @@ use Rattle.inference.specs.Posed.{at, constrain_at, node_at, spare}
 use Rattle.inference.specs.Tallies.{read_all, Totals}
 use Rattle.inference.specs.TypingStrings.{string_of}
 use Rattle.forms.specs.declared.outline.Tally.{Tally}
-use Rattle.inference.proofs.Drafting.{forms_joined}
 use Rattle.inference.proofs.NodePosed.{cells_long, node_poses, node_inside}
 use Rattle.inference.proofs.TypingText.{counts_node, string_is}
 use Rattle.inference.proofs.NodeRoom.{node_roomy, children_roomy}
@@ -90,12 +87,6 @@ module _ (s : Symbol) (strings : List (List ℕ)) (lawful : Lawful s strings) wh
   pub room_node : Roomy (node_at s.kind s.argument Fs).0
   room_node = node_roomy s.kind s.argument Ts typings_long lawful.good
 
-  pub fresh_small : (joined 0 Fs).unknowns ≤ 1440
-  fresh_small =
-      let n = (joined 0 Fs).unknowns + spare in
-      let J = forms_joined 0 Fs (replicate n free) (free_tidy n) (omega (arith, length-replicate n free)) in
-      omega (arith, room_children.cells, J.laid.longer, length-replicate n free)
-
   -- what the kind asks, of the cells that were found
   pub node_is : (S : State) (w : ℕ) (types : List ℕ) → w ≡ (joined 0 Fs).unknowns → S ≡ (all_at 0 Fs).0 → Begins (all_at 0 Fs).1 types → constrain_at s.kind s.argument w types S ≡ node_at s.kind s.argument Fs
   node_is S w types w-is S-is begins =
@@ -120,9 +111,6 @@ module _ (s : Symbol) (strings : List (List ℕ)) (lawful : Lawful s strings) wh
   module _ (S : State) (w : ℕ) (types : List ℕ) (added : (w ≡ (joined 0 Fs).unknowns) × (S ≡ (all_at 0 Fs).0) × Begins (all_at 0 Fs).1 types) where
     same : constrain_at s.kind s.argument w types S ≡ node_at s.kind s.argument Fs
     same = node_is S w types added.0 added.1 added.2
-
-    pub fresh_bound : w ≤ 1440
-    fresh_bound = omega (arith, added.0, fresh_small)
 
     pub room_now : Roomy (constrain_at s.kind s.argument w types S).0
     room_now = subst (λ p. Roomy p.0) (sym same) room_node

@@ -1,39 +1,15 @@
 -- The counts of strings summed one after the other. Assumes nothing.
-use Rattle.std.proofs.Common.{◌≡◌, ℕ, ◌+◌, ◌*◌, ◌<◌, ◌≤◌, ◌&&◌, leb, List, [], ◌∷◌, length, get_or, drop, is_some, Some, None, Ok, Err, Option, Result, sym, refl, ap, ◌∙◌, subst, ap₂, arith, Bor}
+use Rattle.std.proofs.Common.{◌≡◌, ℕ, ◌+◌, ◌<◌, ◌≤◌, min, ◌&&◌, List, [], ◌∷◌, length, get_or, drop, is_some, Some, None, Ok, Err, Option, Result, sym, refl, ap, ◌∙◌, subst, ap₂, arith, Bor}
 use Rattle.std.proofs.lemmas.List.{at_drop_more, drop_all}
-use Rattle.std.proofs.lemmas.Bool.{leb-true}
 use Rattle.forms.specs.Outlines.{outlined, outline_of}
 use Rattle.forms.specs.declared.outline.Outline.{Outline}
 use Rattle.reading.specs.Readings.{Meaning, allows_all, texts}
 use Rattle.syntax.specs.declared.fault.Fault.{Fault}
-use Rattle.typing.specs.Parsing.{is_lawful, read_count, read_group, read_status, read_typing}
+use Rattle.typing.specs.Parsing.{is_lawful, read_typing}
 use Rattle.typing.specs.Strings.{Typing, most}
 use Rattle.typing.specs.Typings.{total, typing_or}
-use Rattle.typing.proofs.GroupReading.{then_some, if_some, some_is, pair_parts}
-use Rattle.inference.specs.Tallies.{AtMost, Sums, Tells, TellsNot, all_lawful, read_all}
+use Rattle.inference.specs.Tallies.{Sums, Tells, TellsNot, all_lawful, both, read_all}
 use Rattle.forms.specs.declared.outline.Tally.{Tally}
-
--- no count that is read is more than the most
-pub record Held (T : Typing) : Type 0 where
-  pub clashes : T.clashes ≤ most
-  pub overlongs : T.overlongs ≤ most
-  pub holes : T.holes ≤ most
-
-count_held : (bs : List ℕ) (n : ℕ) (rest : List ℕ) → read_count bs ≡ Some (n, rest) → n ≤ most
-count_held bs n rest is =
-    let a = then_some (read_group 2 bs) _ (n, rest) is in
-    let i = if_some (leb a.0.0 most) _ (n, rest) a.2 in
-    let p = pair_parts a.0.0 n a.0.1 rest i.1 in
-    omega (arith, leb-true a.0.0 most i.0, p.0)
-
-typing_held : (bs : List ℕ) (T : Typing) → read_typing 4 bs ≡ Some T → Held T
-typing_held [] T is = absurd (let z : ◌≡◌ {A = ℕ} 0 1 = cc in omega (arith, z))
-typing_held (b ∷ bs) T is =
-    let c = then_some (read_count bs) _ T is in
-    let o = then_some (read_count c.0.1) _ T c.2 in
-    let h = then_some (read_count o.0.1) _ T o.2 in
-    let s = then_some (read_status 4 b h.0.1) _ T h.2 in
-    subst Held (some_is _ T s.2) (record { clashes = count_held bs _ _ c.1; overlongs = count_held c.0.1 _ _ o.1; holes = count_held o.0.1 _ _ h.1 })
 
 -- what the reader says of a string
 pub told : (s : List ℕ) (x : Outline) → Ok x ≡ outlined (read_typing 4 s) → Tells s x.tally
@@ -44,8 +20,7 @@ told s x is = by_reading (read_typing 4 s) refl is
     by_reading (Some T) reads is =
         let same : x ≡ outline_of T = cc in
         let typing : T ≡ typing_or (read_typing 4 s) = ap typing_or (sym reads) in
-        let held = typing_held s T reads in
-        subst (Tells s) (ap (λ (y : Outline). y.tally) (sym same)) (record { lawful = ap is_some reads; clashes = ap (λ U. U.clashes) typing; overlongs = ap (λ U. U.overlongs) typing; holes = ap (λ U. U.holes) typing; held = record { clashes = held.clashes; overlongs = held.overlongs; holes = held.holes } })
+        subst (Tells s) (ap (λ (y : Outline). y.tally) (sym same)) (record { lawful = ap is_some reads; clashes = ap (λ U. U.clashes) typing; overlongs = ap (λ U. U.overlongs) typing; holes = ap (λ U. U.holes) typing })
 
 pub untold : (s : List ℕ) (fault : Fault) → Err fault ≡ outlined (read_typing 4 s) → TellsNot s fault
 untold s fault is = by_reading (read_typing 4 s) refl is
@@ -57,17 +32,13 @@ untold s fault is = by_reading (read_typing 4 s) refl is
 -- a count summed as far as the part i
 abbrev SumTo : (Typing → ℕ) → List (Bor (List ℕ)) → ℕ → ℕ → Type 0
 SumTo count parts i n =
-    (n + total count (read_all (texts (drop i parts))) ≡ total count (read_all (texts parts))) × (n ≤ 16383 * i)
+    (min most (n + total count (read_all (texts (drop i parts)))) ≡ min most (total count (read_all (texts parts)))) × (n ≤ most)
 
 pub record Summed (parts : List (Bor (List ℕ))) (i : ℕ) (t : Tally) : Type 0 where
   pub lawful : all_lawful (texts (drop i parts)) ≡ all_lawful (texts parts)
   pub clashes : SumTo (λ T. T.clashes) parts i t.clashes
   pub overlongs : SumTo (λ T. T.overlongs) parts i t.overlongs
   pub holes : SumTo (λ T. T.holes) parts i t.holes
-
-pub few_so_far : (parts : List (Bor (List ℕ))) (i : ℕ) (t : Tally) → i < length parts → length parts ≤ 3 → Summed parts i t → AtMost 32766 t
-few_so_far parts i t lt few so =
-    record { clashes = omega (arith, so.clashes.1); overlongs = omega (arith, so.overlongs.1); holes = omega (arith, so.holes.1) }
 
 module _ (parts : List (Bor (List ℕ))) (i : ℕ) (d : Bor (List ℕ)) (lt : i < length parts) (t : Tally) (so : Summed parts i t) where
   abbrev here : List ℕ
@@ -78,28 +49,25 @@ module _ (parts : List (Bor (List ℕ))) (i : ℕ) (d : Bor (List ℕ)) (lt : i 
       let unlawful = sym so.lawful ∙ at_drop_more (λ ps. all_lawful (texts ps)) parts i d lt ∙ ap (λ b. b && all_lawful (texts (drop (i + 1) parts))) not.unlawful in
       rw is (not.fault_is, unlawful)
 
-  pub summed_more : (one t' : Tally) → Tells here one → t'.clashes ≡ t.clashes + one.clashes → t'.overlongs ≡ t.overlongs + one.overlongs → t'.holes ≡ t.holes + one.holes → Summed parts (i + 1) t'
-  summed_more one t' says c o h =
+  pub summed_more : (one t' : Tally) → Tells here one → t' ≡ both t one → Summed parts (i + 1) t'
+  summed_more one t' says is =
       record {
         lawful = sym (at_drop_more (λ ps. all_lawful (texts ps)) parts i d lt ∙ ap (λ b. b && all_lawful (texts (drop (i + 1) parts))) says.lawful) ∙ so.lawful;
-        clashes = further (λ T. T.clashes) _ _ _ so.clashes says.clashes says.held.clashes c;
-        overlongs = further (λ T. T.overlongs) _ _ _ so.overlongs says.overlongs says.held.overlongs o;
-        holes = further (λ T. T.holes) _ _ _ so.holes says.holes says.held.holes h;
+        clashes = further (λ T. T.clashes) _ _ _ so.clashes says.clashes (ap (λ (x : Tally). x.clashes) is);
+        overlongs = further (λ T. T.overlongs) _ _ _ so.overlongs says.overlongs (ap (λ (x : Tally). x.overlongs) is);
+        holes = further (λ T. T.holes) _ _ _ so.holes says.holes (ap (λ (x : Tally). x.holes) is);
       }
     where
-      further : (count : Typing → ℕ) (n m n' : ℕ) → SumTo count parts i n → m ≡ count (typing_or (read_typing 4 here)) → m ≤ most → n' ≡ n + m → SumTo count parts (i + 1) n'
-      further count n m n' sum is le more =
+      further : (count : Typing → ℕ) (n m n' : ℕ) → SumTo count parts i n → m ≡ count (typing_or (read_typing 4 here)) → n' ≡ min most (n + m) → SumTo count parts (i + 1) n'
+      further count n m n' sum is more =
           let split = at_drop_more (λ ps. total count (read_all (texts ps))) parts i d lt in
-          (omega (arith, sum.0, split, is, more), omega (arith, sum.1, le, more))
+          (omega (arith, sum.0, split, is, more), omega (arith, more))
 
-pub summed_all : (parts : List (Bor (List ℕ))) (i : ℕ) (t : Tally) → length parts ≤ i → i ≤ 3 → Summed parts i t → Sums (texts parts) (Ok t)
-summed_all parts i t past few so =
+pub summed_all : (parts : List (Bor (List ℕ))) (i : ℕ) (t : Tally) → length parts ≤ i → Summed parts i t → Sums (texts parts) (Ok t)
+summed_all parts i t past so =
     let none : drop i parts ≡ [] = drop_all i parts past in
-    let ends : (count : Typing → ℕ) → total count (read_all (texts (drop i parts))) ≡ 0 = λ count. ap (λ ps. total count (read_all (texts ps))) none in (
-      sym so.lawful ∙ ap (λ ps. all_lawful (texts ps)) none,
-      record { clashes = omega (arith, so.clashes.0, ends (λ T. T.clashes)); overlongs = omega (arith, so.overlongs.0, ends (λ T. T.overlongs)); holes = omega (arith, so.holes.0, ends (λ T. T.holes)) },
-      record { clashes = omega (arith, so.clashes.1); overlongs = omega (arith, so.overlongs.1); holes = omega (arith, so.holes.1) },
-    )
+    let ends : (count : Typing → ℕ) → total count (read_all (texts (drop i parts))) ≡ 0 = λ count. ap (λ ps. total count (read_all (texts ps))) none in
+    (sym so.lawful ∙ ap (λ ps. all_lawful (texts ps)) none, record { clashes = omega (arith, so.clashes, ends (λ T. T.clashes)); overlongs = omega (arith, so.overlongs, ends (λ T. T.overlongs)); holes = omega (arith, so.holes, ends (λ T. T.holes)) })
 
 -- the test of a reading whose lawful strings are typing strings
 pub all_allowed : (m : Meaning) → ((s : List ℕ) → m.allows s ≡ is_lawful 4 s) → (strings : List (List ℕ)) → allows_all m strings ≡ all_lawful strings

@@ -1,5 +1,5 @@
 -- The string that is written of an outcome is that of the node's typing. Assumes nothing.
-use Rattle.std.proofs.Common.{◌≡◌, ◌+◌, ◌≤◌, min, true, false, cond, leb, List, ◌∷◌, ◌++◌, length, Some, None, Option, Ok, Err, sym, refl, ap, ◌∙◌, subst, ap₂, arith}
+use Rattle.std.proofs.Common.{◌≡◌, ◌+◌, ◌≤◌, min, true, false, cond, leb, List, ◌∷◌, ◌++◌, length, Some, None, Option, Ok, Err, sym, refl, ap, subst, ap₂, arith}
 use Rattle.std.proofs.lemmas.Bool.{le-leb, lt-leb}
 use Rattle.layout.specs.Groups.{group}
 use Rattle.syntax.specs.declared.kind.Kind.{Kind}
@@ -48,9 +48,9 @@ pub counts_node : (k : Kind) (o : Option Form) (Ts : List Typing) (r : Outcome) 
 counts_node k o Ts r sums t ends totals c v h =
     let s = shows o r ends in
     record {
-      clashes = c ∙ ap₂ (λ m n. min most (m + n)) s.clash totals.clashes;
-      overlongs = v ∙ ap₂ (λ m n. min most (m + n)) s.overlong totals.overlongs;
-      holes = h ∙ ap (λ n. min most (is_hole k + n)) totals.holes;
+      clashes = omega (arith, c, s.clash, totals.clashes);
+      overlongs = omega (arith, v, s.overlong, totals.overlongs);
+      holes = omega (arith, h, totals.holes);
     }
 
 pub string_is : (k : Kind) (o : Option Form) (Ts : List Typing) (r : Outcome) (t : Tally) → Concludes o r → Counts (counted k (status_of o) Ts) t → string_of r t ≡ typing_bytes (counted k (status_of o) Ts)

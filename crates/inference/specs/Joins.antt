@@ -15,6 +15,7 @@ use Rattle.typing.specs.Terms.{Term}
 use Rattle.typing.specs.Typings.{form_of}
 use Rattle.inference.specs.Drafts.{State, add_entries, add_form, add_forms, unknowns, Roomy, DoesIf}
 use Rattle.inference.specs.Posed.{spare}
+use Rattle.inference.specs.declared.base.Base.{Base}
 use Rattle.inference.specs.Layouts.{Legible}
 
 -- a name off the front of some bytes
@@ -66,6 +67,6 @@ Begins (c ∷ cs) (x ∷ xs) = (x ≡ c) × Begins cs xs
 abbrev pub all_at : ℕ → List Form → State × List ℕ
 all_at base Fs = add_forms base Fs (unknowns ((joined base Fs).unknowns + spare))
 
-abbrev pub AddsAll : ℕ → List (List ℕ) → State → List ℕ → Result ℕ Fault → Type 0
+abbrev pub AddsAll : ℕ → List (List ℕ) → State → List ℕ → Result Base Fault → Type 0
 AddsAll base ss S' types r =
-    (Ts : List Typing) → AllRead ss Ts → Roomy (all_at base (forms_of Ts)).0 → MatchResult r (λ w. (w ≡ (joined base (forms_of Ts)).unknowns) × (S' ≡ (all_at base (forms_of Ts)).0) × Begins (all_at base (forms_of Ts)).1 types) (λ fault. ⊥)
+    (Ts : List Typing) → AllRead ss Ts → Roomy (all_at base (forms_of Ts)).0 → MatchResult r (λ w. (w.cell ≡ (joined base (forms_of Ts)).unknowns) × (S' ≡ (all_at base (forms_of Ts)).0) × Begins (all_at base (forms_of Ts)).1 types) (λ fault. ⊥)

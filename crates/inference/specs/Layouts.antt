@@ -4,11 +4,12 @@ use Rattle.std.specs.Borrow.{Bor}
 use Rattle.layout.specs.Groups.{Group}
 use Rattle.syntax.specs.declared.fault.Fault.{Fault}
 use Rattle.typing.specs.Cells.{Graph}
-use Rattle.typing.specs.Heads.{Sort}
+use Rattle.typing.specs.Heads.{Sort, parts_of}
 use Rattle.typing.specs.Solve.{lay}
 use Rattle.typing.specs.Strings.{term_bytes}
+use Rattle.typing.specs.declared.head.Head.{Head}
 use Rattle.inference.specs.Tables.{most_cells}
-use Rattle.typing.specs.Terms.{Term, var, fill, applied, Sorted}
+use Rattle.typing.specs.Terms.{Term, var, head, fill, applied, Sorted}
 
 -- a number, which is a token or a cell, and the bytes behind what was read
 abbrev pub Answer : Type 0
@@ -43,6 +44,11 @@ LaysTerm base bytes g g' r =
 abbrev pub LaysParts : ℕ → ℕ → ℕ → List ℕ → Graph → Graph → Answer → Type 0
 LaysParts base cell count bytes g g' r =
     (g₀ : Graph) (f : Term) (ts : List Term) (rest : List ℕ) → g ≡ (lay f g₀).0 → cell ≡ (lay f g₀).1 → length ts ≡ count → EachLegible ts → bytes ≡ terms_bytes ts ++ rest → length (lay (applied f (map (shift base) ts)) g₀).0 ≤ most_cells → Out (applied f (map (shift base) ts)) rest g₀ g' r
+
+-- The head over all its parts.
+abbrev pub LaysHead : ℕ → Head → List ℕ → Graph → Graph → Answer → Type 0
+LaysHead base h bytes g g' r =
+    (ts : List Term) (rest : List ℕ) → length ts ≡ length (parts_of 4 h) → EachLegible ts → bytes ≡ terms_bytes ts ++ rest → length (lay (applied (head h) (map (shift base) ts)) g).0 ≤ most_cells → Out (applied (head h) (map (shift base) ts)) rest g g' r
 
 -- so many bytes at least are taken
 abbrev pub Takes : ℕ → List ℕ → Answer → Type 0

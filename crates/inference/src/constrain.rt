@@ -1,12 +1,13 @@
 // What a node asks of the cells of its children's types, kind by kind. Each answers the cell of the
-// node's own type; the cells from `fresh` on are free.
-ghost use Rattle.std.specs.Prelude.{◌≡◌, ◌≤◌, true, [], ◌∷◌, length};
+// node's own type; those from `fresh` on are free.
+ghost use Rattle.std.specs.Prelude.{◌≡◌, ◌+◌, ◌≤◌, true, [], ◌∷◌, length};
 ghost use Rattle.syntax.specs.Arguments.{fits};
 ghost use Rattle.syntax.specs.declared.argument.Argument.TheVariants.{Label as OfLabel, Name as OfName, Nothing};
 ghost use Rattle.syntax.specs.declared.kind.Kind.TheVariants.{Add, App, Ext, Fix, Ifz, Lam, Nil, Sel, Var};
 ghost use Rattle.inference.specs.Drafts.{DoesIf, state_of};
 ghost use Rattle.inference.specs.Posed.{cells_from, constrain_at};
 
+use crate::base::Base;
 use crate::draft::Draft;
 use crate::entry::Entry;
 use syntax::argument::{Argument, Symbol};
@@ -83,38 +84,37 @@ fn test(number: usize, zero: usize, other: usize, draft: &mut Draft) -> Result<u
     Ok(zero)
 }
 
-// Four cells from one on, as the places of a record.
-fn places(from: usize) -> [usize; 4]
-    requires { from ≤ 2000 }
-    ensures { result ≡ cells_from 4 from }
+// Four cells behind so many, as the places of a record.
+fn places(base: Base, before: usize) -> [usize; 4]
+    requires { before ≤ 1 }
+    ensures { result ≡ cells_from 4 (base.cell + before) }
 {
+    let from = base.cell + before;
     [from, from + 1, from + 2, from + 3]
 }
 
 // A place of a record that has it.
-fn selection(label: Label, fresh: usize, fields: usize, draft: &mut Draft) -> Result<usize, Fault>
-    requires { fresh ≤ 1440 }
-    ensures { DoesIf (constrain_at Sel (OfLabel label) fresh (fields ∷ []) (state_of draft.old)) (state_of draft.new) result }
+fn selection(label: Label, fresh: Base, fields: usize, draft: &mut Draft) -> Result<usize, Fault>
+    ensures { DoesIf (constrain_at Sel (OfLabel label) fresh.cell (fields ∷ []) (state_of draft.old)) (state_of draft.new) result }
 {
-    let mut shape = places(fresh + 1);
-    shape[u32::from(label) as usize] = draft.build(Head::Present, &[fresh])?;
+    let mut shape = places(fresh, 1);
+    shape[u32::from(label) as usize] = draft.build(Head::Present, &[fresh.cell])?;
     let whole = draft.build(Head::Rec, &shape)?;
     draft.equate(fields, whole)?;
-    Ok(fresh)
+    Ok(fresh.cell)
 }
 
 // A record with one place made present, whatever it was.
 fn extension(
     label: Label,
-    fresh: usize,
+    fresh: Base,
     fields: usize,
     value: usize,
     draft: &mut Draft,
 ) -> Result<usize, Fault>
-    requires { fresh ≤ 1440 }
-    ensures { DoesIf (constrain_at Ext (OfLabel label) fresh (fields ∷ value ∷ []) (state_of draft.old)) (state_of draft.new) result }
+    ensures { DoesIf (constrain_at Ext (OfLabel label) fresh.cell (fields ∷ value ∷ []) (state_of draft.old)) (state_of draft.new) result }
 {
-    let mut shape = places(fresh);
+    let mut shape = places(fresh, 0);
     let whole = draft.build(Head::Rec, &shape)?;
     shape[u32::from(label) as usize] = draft.build(Head::Present, &[value])?;
     let extended = draft.build(Head::Rec, &shape)?;
@@ -124,24 +124,22 @@ fn extension(
 
 pub(crate) fn constrain(
     symbol: Symbol,
-    fresh: usize,
-    types: &[usize],
+    fresh: Base,
+    types: &[usize; 3],
     draft: &mut Draft,
 ) -> Result<usize, Fault>
-    requires fits { fits symbol ≡ true }
-    requires types { length types.now ≡ 3 }
-    requires fresh { fresh ≤ 1440 }
-    ensures { DoesIf (constrain_at symbol.kind symbol.argument fresh types.now (state_of draft.old)) (state_of draft.new) result }
+    requires { fits symbol ≡ true }
+    ensures { DoesIf (constrain_at symbol.kind symbol.argument fresh.cell types.now (state_of draft.old)) (state_of draft.new) result }
 {
     match (symbol.kind, symbol.argument) {
-        (Kind::Hole, _) => Ok(fresh),
+        (Kind::Hole, _) => Ok(fresh.cell),
         (Kind::Num, _) => draft.atom(Head::Num),
-        (Kind::Var, Argument::Name(name)) => variable(name, fresh, draft),
+        (Kind::Var, Argument::Name(name)) => variable(name, fresh.cell, draft),
         (Kind::Nil, _) => nil(draft),
-        (Kind::Lam, Argument::Name(name)) => lambda(name, fresh, types[0], draft),
-        (Kind::Fix, _) => fixed_point(fresh, types[0], draft),
+        (Kind::Lam, Argument::Name(name)) => lambda(name, fresh.cell, types[0], draft),
+        (Kind::Fix, _) => fixed_point(fresh.cell, types[0], draft),
         (Kind::Sel, Argument::Label(label)) => selection(label, fresh, types[0], draft),
-        (Kind::App, _) => application(fresh, types[0], types[1], draft),
+        (Kind::App, _) => application(fresh.cell, types[0], types[1], draft),
         (Kind::Add, _) => addition(types[0], types[1], draft),
         (Kind::Ext, Argument::Label(label)) => {
             extension(label, fresh, types[0], types[1], draft)

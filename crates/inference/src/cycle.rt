@@ -28,9 +28,8 @@ fn unmarked() -> [Mark; MOST_CELLS]
 
 impl<'a> Graph<'a> {
     // Walks down from a cell, each cell once, and refuses to come back to one that is open.
-    fn descend(&self, marks: &mut [Mark], start: usize) -> Result<(), Cycle>
-        requires within { start < length self.now.cells.now }
-        requires long { length self.now.cells.now ≤ length marks.old }
+    fn descend(&self, marks: &mut [Mark; MOST_CELLS], start: usize) -> Result<(), Cycle>
+        requires { start < length self.now.cells.now }
         ensures { MatchResult result (λ _. Walked self.now.cells.now marks.old start marks.new) (λ _. Sinks self.now.cells.now marks.old start) }
     {
         let top = self.root(start);
@@ -51,7 +50,6 @@ impl<'a> Graph<'a> {
 
     // Refuses a graph in which a cell is reached from its own parts.
     pub(crate) fn check_acyclic(&self) -> Result<(), Cycle>
-        requires { length self.now.cells.now ≤ 1440 }
         ensures { MatchResult result (λ _. acyclic self.now.cells.now ≡ true) (λ _. acyclic self.now.cells.now ≡ false) }
     {
         let mut marks = unmarked();

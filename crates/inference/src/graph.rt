@@ -1,5 +1,6 @@
-// A graph of cells that can be solved: links lead to smaller numbers, and parts are cells of the graph.
-ghost use Rattle.std.specs.Prelude.{◌≡◌, ◌<◌, length};
+// A graph of cells that can be solved: no more cells than a table has, of which links lead to smaller
+// numbers, and parts are cells of the graph.
+ghost use Rattle.std.specs.Prelude.{◌≡◌, ◌<◌, ◌≤◌, length};
 ghost use Rattle.typing.specs.Cells.{find};
 ghost use Rattle.typing.specs.Solutions.{Tidy};
 ghost use Rattle.inference.specs.TidyGraphs.{tidy_prop};
@@ -9,12 +10,14 @@ use typing::cell::Cell;
 #[derive(Drop)]
 pub struct Graph<'a> {
     pub cells: &'a mut [Cell],
+    ghost few: { length cells.now ≤ 1440 },
     ghost tidy: { Tidy (length cells.now) cells.now } by { tidy_prop _ _ },
 }
 
 impl<'a> Graph<'a> {
     pub(crate) fn new(cells: &'a mut [Cell]) -> Graph<'a>
-        requires { Tidy (length cells.old) cells.old }
+        requires few { length cells.old ≤ 1440 }
+        requires tidy { Tidy (length cells.old) cells.old }
         ensures { result.cells.now ≡ cells.old }
     {
         Graph { cells }

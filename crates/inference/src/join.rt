@@ -20,11 +20,8 @@ pub const SPARE: usize = 5;
 fn read_name(bytes: &[u8]) -> Result<(Name, &[u8]), Fault>
     ensures { ReadsName bytes.now result }
 {
-    if bytes.len() < 4 {
-        return Err(Fault::Unlawful);
-    }
-    let name = Name([bytes[0], bytes[1], bytes[2], bytes[3]]);
-    Ok((name, &bytes[4..]))
+    let (name, rest) = bytes.split_first_chunk::<4>().ok_or(Fault::Unlawful)?;
+    Ok((Name(*name), rest))
 }
 
 // Adds so many entries off the front of some bytes, the last one first, and answers the bytes behind
@@ -89,10 +86,9 @@ pub(crate) fn add_children(
     from: usize,
     base: Base,
     draft: &mut Draft,
-    types: &mut [usize],
-) -> Result<usize, Fault>
+    types: &mut [usize; 3],
+) -> Result<Base, Fault>
     requires few { length parts.now ≤ 3 }
-    requires types { length types.old ≡ 3 }
     requires from { from ≤ length parts.now }
     requires base { base.cell ≤ 240 * from }
     requires empty { state_of draft.old ≡ unknowns 0 }
@@ -100,7 +96,7 @@ pub(crate) fn add_children(
 {
     if from == parts.len() {
         draft.push_free(base.cell + SPARE)?;
-        return Ok(base.cell);
+        return Ok(base);
     }
     let text = parts[from];
     let outline = read_child(text)?;

@@ -1,7 +1,7 @@
 // Laying terms out as cells, off the bytes that spell them.
-ghost use Rattle.std.specs.Prelude.{◌≡◌, ◌≤◌, length};
+ghost use Rattle.std.specs.Prelude.{◌≡◌, length};
 ghost use Rattle.typing.specs.Heads.{parts_of};
-ghost use Rattle.inference.specs.Layouts.{LaysParts, LaysTerm, Takes};
+ghost use Rattle.inference.specs.Layouts.{LaysHead, LaysTerm, Takes};
 ghost use Rattle.inference.specs.Tables.{graph_of};
 
 use crate::base::Base;
@@ -25,31 +25,30 @@ pub(crate) fn lay_term<'a>(
     let (token, rest) = read_number(bytes)?;
     match Token::from(token) {
         Token::Variable(k) => Ok((base.cell + k as usize, rest)),
-        Token::Head(head) => {
-            let cell = table.push(Cell::Atom(head))?;
-            lay_parts(cell, part_count(head), rest, base, table)
-        }
+        Token::Head(head) => lay_head(head, rest, base, table),
     }
 }
 
-// Lays out so many terms that stand one behind another, and applies a cell to each in turn.
+// Lays out a head, applied in turn to the terms that stand one behind another at the front of some
+// bytes, as many as it has parts.
 #[cycle(lays_term)]
-fn lay_parts<'a>(
-    cell: usize,
-    count: usize,
+fn lay_head<'a>(
+    head: Head,
     bytes: &'a [u8],
     base: Base,
     table: &mut Table,
 ) -> Result<(usize, &'a [u8]), Fault>
     ensures takes { Takes 0 bytes.now result }
-    ensures lays { LaysParts base.cell cell count bytes.now (graph_of table.old) (graph_of table.new) result }
+    ensures lays { LaysHead base.cell head bytes.now (graph_of table.old) (graph_of table.new) result }
 {
-    if count == 0 {
-        return Ok((cell, bytes));
+    let mut cell = table.push(Cell::Atom(head))?;
+    let mut rest = bytes;
+    for _part in 0..part_count(head) {
+        let (part, behind) = lay_term(rest, base, table)?;
+        cell = table.push(Cell::Apply(cell, part))?;
+        rest = behind;
     }
-    let (part, rest) = lay_term(bytes, base, table)?;
-    let applied = table.push(Cell::Apply(cell, part))?;
-    lay_parts(applied, count - 1, rest, base, table)
+    Ok((cell, rest))
 }
 
 // How many parts a head has, where there are four labels.

@@ -1,5 +1,5 @@
 -- What is known of a string whose type is printed. Assumes nothing.
-use Rattle.std.proofs.Common.{◌≡◌, ℕ, ◌+◌, ◌-◌, ◌≤◌, Bool, true, false, cond, ltb, List, [], ◌++◌, length, take, drop, Some, None, Ok, Err, Option, Result, sym, refl, ap, ◌∙◌, subst, arith, length-drop}
+use Rattle.std.proofs.Common.{◌≡◌, ℕ, ◌+◌, ◌-◌, ◌≤◌, Bool, true, false, cond, ltb, List, [], ◌++◌, length, take, drop, Some, None, Ok, Err, Option, Result, MatchResult, sym, refl, ap, ◌∙◌, subst, arith, length-drop}
 use Rattle.std.proofs.lemmas.List.{append-nil, take_rest}
 use Rattle.std.proofs.lemmas.Bool.{ltb-false}
 use Rattle.forms.specs.Outlines.{type_offset}
@@ -13,10 +13,10 @@ use Rattle.typing.specs.Strings.{Bytes, Good, GoodStatus, Typing, Status, formed
 use Rattle.typing.specs.Terms.{Term}
 use Rattle.typing.proofs.StringsRead.{typing_read}
 use Rattle.typing.proofs.TermReading.{term_long}
-use Rattle.type_text.specs.Prints.{admitted, status_at, typing_at, Spelt, Grew}
+use Rattle.type_text.specs.Prints.{admitted, status_at, typing_at, Room, Shown, Spelt}
 use Rattle.type_text.specs.TypeTexts.{answer_text, status_text, typing_text, type_text, WritesText}
-use Rattle.type_text.proofs.Growing.{grew_whole}
-use Rattle.type_text.proofs.Lengths.{result_long, result_spelt}
+use Rattle.type_text.specs.declared.print.Printer.{Printer}
+use Rattle.type_text.proofs.Lengths.{result_long, result_spelt, type_text_fits}
 
 -- a lawful string that has a form, and where its type begins
 pub record Typed (text : List ℕ) (at : ℕ) (answer : Result (List ℕ) Fault) : Type 0 where
@@ -78,11 +78,14 @@ module _ (text : List ℕ) (at : ℕ) (answer : Result (List ℕ) Fault) (typed 
   part_is = take_rest text at ∙ typed.stands ∙ sym (append-nil (term_bytes typed.form.result))
 
   -- what is printed is the answer
-  pub typed_written : (before after : List ℕ) (n : ℕ) → ((t : Term) (rest : List ℕ) → Spelt type t → take (length text - at) (drop at text) ≡ term_bytes t ++ rest → Grew (type_text t) 0 before n after) → WritesText answer before after (Ok n)
-  typed_written before after n shown =
+  pub typed_shown : (p p' : Printer) (r : Result (Unit {0}) Fault) → p.rest.now ≡ take (length text - at) (drop at text) → p.text.items ≡ [] → ((t : Term) (rest : List ℕ) → Spelt type t → p.rest.now ≡ term_bytes t ++ rest → Room (type_text t) p → Shown (type_text t) rest p p' r) → MatchResult r (λ _. answer ≡ Ok p'.text.items) (λ _. ⊥)
+  typed_shown p p' r is none shown =
       let t = typed.form.result in
-      let whole = grew_whole (type_text t) before n after (shown t [] (result_spelt typed.form typed.good) part_is) in
-      subst (λ (a : Result (List ℕ) Fault). WritesText a before after (Ok n)) (sym typed.answered) (ap Ok whole.0, whole.1)
+      answered r (shown t [] (result_spelt typed.form typed.good) (is ∙ part_is) (omega (arith, ap length none, type_text_fits typed.form typed.good)))
+    where
+      answered : (r' : Result (Unit {0}) Fault) → Shown (type_text typed.form.result) [] p p' r' → MatchResult r' (λ _. answer ≡ Ok p'.text.items) (λ _. ⊥)
+      answered (Ok u) s = typed.answered ∙ ap Ok (sym (s.1 ∙ ap (λ z. z ++ type_text typed.form.result) none))
+      answered (Err fault) s = s
 
-  pub typed_nothing : ((t : Term) (rest : List ℕ) → Spelt type t → take (length text - at) (drop at text) ≡ term_bytes t ++ rest → ⊥) → ⊥
-  typed_nothing none = none typed.form.result [] (result_spelt typed.form typed.good) part_is
+pub written : (answer : Result (List ℕ) Fault) (before : List ℕ) (text : List ℕ) → answer ≡ Ok text → WritesText answer before (text ++ drop (length text) before) (Ok (length text))
+written answer before text is = subst (λ (a : Result (List ℕ) Fault). WritesText a before (text ++ drop (length text) before) (Ok (length text))) (sym is) (refl, refl)

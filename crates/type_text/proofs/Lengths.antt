@@ -1,9 +1,10 @@
 -- How long the text of a type is: at most sixteen bytes for each byte of the type. Assumes nothing.
-use Rattle.std.proofs.Common.{◌≡◌, ℕ, ◌+◌, ◌*◌, ◌<◌, ◌≤◌, List, [], ◌∷◌, ◌++◌, length, codes, arith, length-append}
+use Rattle.std.proofs.Common.{◌≡◌, ℕ, ◌+◌, ◌*◌, ◌<◌, ◌≤◌, List, [], ◌∷◌, ◌++◌, length, codes, refl, arith, length-append}
 use Rattle.std.proofs.lemmas.Fmt.{length-decimal-le}
 use Rattle.layout.specs.Groups.{bound, group}
 use Rattle.syntax.specs.Labels.{label_word}
 use Rattle.syntax.specs.declared.label.Label.{Label}
+use Rattle.syntax.specs.declared.label.Label.TheVariants.{Row, Col, Ink, Lit}
 use Rattle.typing.specs.Forms.{Form, entry_variables, form_variables}
 use Rattle.typing.specs.Heads.{Sort, type, token_of}
 use Rattle.typing.specs.Strings.{Good, entries_bytes, term_bytes}
@@ -13,7 +14,12 @@ use Rattle.typing.proofs.StringReading.{entry_variables_long, numbered_small, va
 use Rattle.typing.proofs.TermReading.{Small, group_long, small_parts}
 use Rattle.type_text.specs.Prints.{Spelt}
 use Rattle.type_text.specs.TypeTexts.{Part, field_text, fields_text, first_text, behind_first, labels, over, front, parts, type_text, TypeTextFits}
-use Rattle.type_text.proofs.Growing.{word_long}
+
+word_long : (l : Label) → length (label_word l) ≡ 3
+word_long Row = refl
+word_long Col = refl
+word_long Ink = refl
+word_long Lit = refl
 
 -- what parts may add: their texts, and for each what a field has around it
 load : List Part → ℕ

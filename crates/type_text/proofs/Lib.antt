@@ -1,6 +1,5 @@
-pub mod Growing
 pub mod Tokens
-pub mod Printing
 pub mod Lengths
+pub mod Printing
 pub mod Admitting
 pub mod Examples

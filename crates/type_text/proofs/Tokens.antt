@@ -1,17 +1,19 @@
 -- The token at the front of a term's bytes says what the term is. Assumes nothing.
-use Rattle.std.proofs.Common.{◌≡◌, ℕ, suc, ◌+◌, ◌-◌, ◌<◌, ◌⊎◌, List, [], ◌∷◌, ◌++◌, length, Some, None, Option, sym, refl, ap, ◌∙◌, subst, inl, inr, arith}
+use Rattle.std.proofs.Common.{◌≡◌, ℕ, ◌+◌, ◌<◌, ◌⊎◌, List, [], ◌∷◌, ◌++◌, length, sym, refl, ap, ◌∙◌, subst, inl, inr, arith}
 use Rattle.std.proofs.lemmas.List.{append_assoc, append-nil}
 use Rattle.layout.specs.Groups.{Group, bound, group}
 use Rattle.layout.proofs.Groups.{groups_prefix}
-use Rattle.typing.specs.Heads.{Sort, type, place, result_of, parts_of, token_of, head_of}
+use Rattle.typing.specs.Heads.{Sort, type, place, result_of, parts_of, token_of, meaning_of}
 use Rattle.typing.specs.Strings.{term_bytes}
-use Rattle.typing.specs.Terms.{Term, var, head, ◌·◌, num, fun, rec, absent, present, applied, Sorted}
+use Rattle.typing.specs.Terms.{Term, var, head, ◌·◌, applied, Sorted}
 use Rattle.typing.specs.declared.head.Head.{Head}
 use Rattle.typing.specs.declared.head.Head.TheVariants.{Num, Fun, Rec, Absent, Present}
-use Rattle.typing.proofs.Merging.{head_of_token}
+use Rattle.typing.specs.declared.head.Token.{Token}
+use Rattle.typing.specs.declared.head.Token.TheVariants.{Head as OfHead, Variable}
+use Rattle.typing.proofs.Meanings.{head_token, variable_token}
 use Rattle.typing.proofs.Records.{EachSorted}
 use Rattle.typing.proofs.TermReading.{Made, take_apart, applied_bytes, terms_bytes}
-use Rattle.type_text.specs.Prints.{Spelt, AllPlaces, places_bytes}
+use Rattle.type_text.specs.Prints.{Spelt, AllPlaces, PlaceAt, TypeAt, places_bytes}
 
 abbrev V : ℕ → Sort → Type 0
 V k s = 5 + k < bound 2
@@ -35,23 +37,6 @@ pub no_term : (s : Sort) (bytes : List ℕ) → ((n : ℕ) (rest : List ℕ) →
 no_term s bytes none t rest so is =
     let r = first_token [] s t so in
     none r.0 (r.1 ++ rest) r.2 (is ∙ ap (λ z. z ++ rest) r.3 ∙ append_assoc (group r.0) r.1 rest)
-
--- what a type is whose token stands for this head, and what stands behind the token
-abbrev pub TypeAt : Option Head → ℕ → Term → List ℕ → List ℕ → Type 0
-TypeAt None token t rest behind = (t ≡ var (token - 5)) × (behind ≡ rest)
-TypeAt (Some Num) token t rest behind = (t ≡ num) × (behind ≡ rest)
-TypeAt (Some Fun) token t rest behind = (a : Term) × (b : Term) × (t ≡ fun a b) × Spelt type a × Spelt type b × (behind ≡ term_bytes a ++ (term_bytes b ++ rest))
-TypeAt (Some Rec) token t rest behind = (ts : List Term) × (t ≡ rec ts) × AllPlaces ts × (length ts ≡ 4) × (behind ≡ places_bytes ts ++ rest)
-TypeAt (Some Absent) token t rest behind = ⊥
-TypeAt (Some Present) token t rest behind = ⊥
-
-abbrev pub PlaceAt : Option Head → ℕ → Term → List ℕ → List ℕ → Type 0
-PlaceAt None token t rest behind = (t ≡ var (token - 5)) × (behind ≡ rest)
-PlaceAt (Some Num) token t rest behind = ⊥
-PlaceAt (Some Fun) token t rest behind = ⊥
-PlaceAt (Some Rec) token t rest behind = ⊥
-PlaceAt (Some Absent) token t rest behind = (t ≡ absent) × (behind ≡ rest)
-PlaceAt (Some Present) token t rest behind = (a : Term) × (t ≡ present a) × Spelt type a × (behind ≡ term_bytes a ++ rest)
 
 four_places : (ts : List Term) → EachSorted V 4 (place ∷ place ∷ place ∷ place ∷ []) ts → AllPlaces ts × (length ts ≡ 4)
 four_places [] each = absurd each
@@ -81,12 +66,12 @@ places_bytes_lem [] = refl
 places_bytes_lem (t ∷ ts) = ap (λ z. term_bytes t ++ z) (places_bytes_lem ts)
 
 -- the token of a term that is made of a head and its parts
-head_token : (h : Head) (ts : List Term) (rest : List ℕ) (token : ℕ) (behind : List ℕ) → Group token → term_bytes (applied (head h) ts) ++ rest ≡ group token ++ behind → (token ≡ token_of h) × (behind ≡ terms_bytes ts ++ rest)
-head_token h ts rest token behind small is =
+token_of_head : (h : Head) (ts : List Term) (rest : List ℕ) (token : ℕ) (behind : List ℕ) → Group token → term_bytes (applied (head h) ts) ++ rest ≡ group token ++ behind → (token ≡ token_of h) × (behind ≡ terms_bytes ts ++ rest)
+token_of_head h ts rest token behind small is =
     let split : term_bytes (applied (head h) ts) ++ rest ≡ group (token_of h) ++ (terms_bytes ts ++ rest) = ap (λ z. z ++ rest) (applied_bytes (head h) ts) ∙ append_assoc (group (token_of h)) (terms_bytes ts) rest in
     groups_prefix 2 token (token_of h) behind (terms_bytes ts ++ rest) small (token_small h) (sym is ∙ split)
 
-type_made : (h : Head) (ts : List Term) (rest : List ℕ) → result_of h ≡ type → EachSorted V 4 (parts_of 4 h) ts → TypeAt (Some h) (token_of h) (applied (head h) ts) rest (terms_bytes ts ++ rest)
+type_made : (h : Head) (ts : List Term) (rest : List ℕ) → result_of h ≡ type → EachSorted V 4 (parts_of 4 h) ts → TypeAt (OfHead h) (applied (head h) ts) rest (terms_bytes ts ++ rest)
 type_made Num ts rest makes each = let none = no_parts ts each in (ap (applied (head Num)) none, ap (λ z. terms_bytes z ++ rest) none)
 type_made Fun ts rest makes each =
     let r = two_types ts each in
@@ -97,7 +82,7 @@ type_made Rec ts rest makes each = let r = four_places ts each in (ts, refl, r.0
 type_made Absent ts rest makes each = absurd (let z : ◌≡◌ {A = ℕ} 0 1 = cc in omega (arith, z))
 type_made Present ts rest makes each = absurd (let z : ◌≡◌ {A = ℕ} 0 1 = cc in omega (arith, z))
 
-place_made : (h : Head) (ts : List Term) (rest : List ℕ) → result_of h ≡ place → EachSorted V 4 (parts_of 4 h) ts → PlaceAt (Some h) (token_of h) (applied (head h) ts) rest (terms_bytes ts ++ rest)
+place_made : (h : Head) (ts : List Term) (rest : List ℕ) → result_of h ≡ place → EachSorted V 4 (parts_of 4 h) ts → PlaceAt (OfHead h) (applied (head h) ts) rest (terms_bytes ts ++ rest)
 place_made Num ts rest makes each = absurd (let z : ◌≡◌ {A = ℕ} 0 1 = cc in omega (arith, z))
 place_made Fun ts rest makes each = absurd (let z : ◌≡◌ {A = ℕ} 0 1 = cc in omega (arith, z))
 place_made Rec ts rest makes each = absurd (let z : ◌≡◌ {A = ℕ} 0 1 = cc in omega (arith, z))
@@ -107,46 +92,42 @@ place_made Present ts rest makes each =
     (r.0, ap (applied (head Present)) r.1, r.2, ap (λ z. terms_bytes z ++ rest) r.1 ∙ append_assoc (term_bytes r.0) [] rest)
 
 -- what holds of a term by its shape holds of it by its token
-module _ (P : Option Head → ℕ → Term → List ℕ → List ℕ → Type 0) (token : ℕ) (behind : List ℕ) (small : Group token) (t : Term) (rest : List ℕ) (is : term_bytes t ++ rest ≡ group token ++ behind) where
-  moved : (token' : ℕ) (t' : Term) (behind' : List ℕ) → token ≡ token' → t ≡ t' → behind ≡ behind' → P (head_of token') token' t' rest behind' → P (head_of token) token t rest behind
-  moved token' t' behind' et es eb p =
-      subst (λ (n : ℕ). P (head_of n) n t rest behind) (sym et) (subst (λ (u : Term). P (head_of token') token' u rest behind) (sym es) (subst (λ (z : List ℕ). P (head_of token') token' t' rest z) (sym eb) p))
+module _ (P : Token → Term → List ℕ → List ℕ → Type 0) (token : ℕ) (behind : List ℕ) (small : Group token) (t : Term) (rest : List ℕ) (is : term_bytes t ++ rest ≡ group token ++ behind) where
+  moved : (token' : ℕ) (m : Token) (t' : Term) (behind' : List ℕ) → token ≡ token' → meaning_of token' ≡ m → t ≡ t' → behind ≡ behind' → P m t' rest behind' → P (meaning_of token) t rest behind
+  moved token' m t' behind' et em es eb p =
+      subst (λ (x : Token). P x t rest behind) (sym (ap meaning_of et ∙ em)) (subst (λ (u : Term). P m u rest behind) (sym es) (subst (λ (z : List ℕ). P m t' rest z) (sym eb) p))
 
-  by_variable : (k : ℕ) → t ≡ var k → 5 + k < bound 2 → P (head_of (5 + k)) (5 + k) (var k) rest rest → P (head_of token) token t rest behind
+  by_variable : (k : ℕ) → t ≡ var k → 5 + k < bound 2 → P (Variable k) (var k) rest rest → P (meaning_of token) t rest behind
   by_variable k of fits p =
       let e = groups_prefix 2 token (5 + k) behind rest small fits (sym is ∙ ap (λ (u : Term). term_bytes u ++ rest) of) in
-      moved (5 + k) (var k) rest e.0 of e.1 p
+      moved (5 + k) (Variable k) (var k) rest e.0 (variable_token k) of e.1 p
 
-  by_head : (h : Head) (ts : List Term) → t ≡ applied (head h) ts → P (Some h) (token_of h) (applied (head h) ts) rest (terms_bytes ts ++ rest) → P (head_of token) token t rest behind
+  by_head : (h : Head) (ts : List Term) → t ≡ applied (head h) ts → P (OfHead h) (applied (head h) ts) rest (terms_bytes ts ++ rest) → P (meaning_of token) t rest behind
   by_head h ts of p =
-      let e = head_token h ts rest token behind small (ap (λ (u : Term). term_bytes u ++ rest) (sym of) ∙ is) in
-      moved (token_of h) (applied (head h) ts) (terms_bytes ts ++ rest) e.0 of e.1 (subst (λ (o : Option Head). P o (token_of h) (applied (head h) ts) rest (terms_bytes ts ++ rest)) (sym (head_of_token h)) p)
+      let e = token_of_head h ts rest token behind small (ap (λ (u : Term). term_bytes u ++ rest) (sym of) ∙ is) in
+      moved (token_of h) (OfHead h) (applied (head h) ts) (terms_bytes ts ++ rest) e.0 (head_token h) of e.1 p
 
-token_variable : (k : ℕ) → head_of (5 + k) ≡ None
-token_variable k = let e : 5 + k ≡ suc (suc (suc (suc (suc k)))) = omega arith in ap head_of e
+module _ (bytes : List ℕ) (token : ℕ) (behind : List ℕ) (read : Group token × (bytes ≡ group token ++ behind)) (t : Term) (rest : List ℕ) (is : bytes ≡ term_bytes t ++ rest) where
+  whole : term_bytes t ++ rest ≡ group token ++ behind
+  whole = sym is ∙ read.1
 
-module _ (bytes : List ℕ) (token : ℕ) (behind : List ℕ) (read : Group token × (bytes ≡ group token ++ behind)) (t : Term) (rest : List ℕ) where
-  pub type_at : Spelt type t → bytes ≡ term_bytes t ++ rest → TypeAt (head_of token) token t rest behind
-  type_at so is = by_shape (take_apart V 4 t [] type so)
+  type_at : Spelt type t → TypeAt (meaning_of token) t rest behind
+  type_at so = by_shape (take_apart V 4 t [] type so)
     where
-      whole : term_bytes t ++ rest ≡ group token ++ behind
-      whole = sym is ∙ read.1
-
-      by_shape : ((k : ℕ) × (t ≡ var k) × (◌≡◌ {A = List Sort} [] []) × V k type) ⊎ Made V 4 [] type t → TypeAt (head_of token) token t rest behind
-      by_shape (inl v) =
-          let k = v.0 in
-          let less : v.0 ≡ 5 + v.0 - 5 = omega arith in
-          by_variable TypeAt token behind read.0 t rest whole k v.1 v.3 (subst (λ (o : Option Head). TypeAt o (5 + v.0) (var v.0) rest rest) (sym (token_variable v.0)) (ap var less, refl))
+      by_shape : ((k : ℕ) × (t ≡ var k) × (◌≡◌ {A = List Sort} [] []) × V k type) ⊎ Made V 4 [] type t → TypeAt (meaning_of token) t rest behind
+      by_shape (inl v) = by_variable TypeAt token behind read.0 t rest whole v.0 v.1 v.3 (refl, refl)
       by_shape (inr m) = by_head TypeAt token behind read.0 t rest whole m.top m.parts m.is (type_made m.top m.parts rest m.makes (subst (λ ss. EachSorted V 4 ss m.parts) (sym (m.needs ∙ append-nil m.sorts)) m.each))
 
-  pub place_at : Spelt place t → bytes ≡ term_bytes t ++ rest → PlaceAt (head_of token) token t rest behind
-  place_at so is = by_shape (take_apart V 4 t [] place so)
+  place_at : Spelt place t → PlaceAt (meaning_of token) t rest behind
+  place_at so = by_shape (take_apart V 4 t [] place so)
     where
-      whole : term_bytes t ++ rest ≡ group token ++ behind
-      whole = sym is ∙ read.1
-
-      by_shape : ((k : ℕ) × (t ≡ var k) × (◌≡◌ {A = List Sort} [] []) × V k place) ⊎ Made V 4 [] place t → PlaceAt (head_of token) token t rest behind
-      by_shape (inl v) =
-          let less : v.0 ≡ 5 + v.0 - 5 = omega arith in
-          by_variable PlaceAt token behind read.0 t rest whole v.0 v.1 v.3 (subst (λ (o : Option Head). PlaceAt o (5 + v.0) (var v.0) rest rest) (sym (token_variable v.0)) (ap var less, refl))
+      by_shape : ((k : ℕ) × (t ≡ var k) × (◌≡◌ {A = List Sort} [] []) × V k place) ⊎ Made V 4 [] place t → PlaceAt (meaning_of token) t rest behind
+      by_shape (inl v) = by_variable PlaceAt token behind read.0 t rest whole v.0 v.1 v.3 (refl, refl)
       by_shape (inr m) = by_head PlaceAt token behind read.0 t rest whole m.top m.parts m.is (place_made m.top m.parts rest m.makes (subst (λ ss. EachSorted V 4 ss m.parts) (sym (m.needs ∙ append-nil m.sorts)) m.each))
+
+-- the token that was read is that of the term
+pub types_by : (bytes : List ℕ) (token : ℕ) (behind : List ℕ) → Group token × (bytes ≡ group token ++ behind) → (m : Token) → m ≡ meaning_of token → (t : Term) (rest : List ℕ) → Spelt type t → bytes ≡ term_bytes t ++ rest → TypeAt m t rest behind
+types_by bytes token behind read m means t rest so is = subst (λ (x : Token). TypeAt x t rest behind) (sym means) (type_at bytes token behind read t rest is so)
+
+pub places_by : (bytes : List ℕ) (token : ℕ) (behind : List ℕ) → Group token × (bytes ≡ group token ++ behind) → (m : Token) → m ≡ meaning_of token → (t : Term) (rest : List ℕ) → Spelt place t → bytes ≡ term_bytes t ++ rest → PlaceAt m t rest behind
+places_by bytes token behind read m means t rest so is = subst (λ (x : Token). PlaceAt x t rest behind) (sym means) (place_at bytes token behind read t rest is so)

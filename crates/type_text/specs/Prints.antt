@@ -1,14 +1,18 @@
--- How the printer goes on: what a buffer holds when a piece has been written into it. Assumes nothing.
-use Rattle.std.specs.Prelude.{◌≡◌, ℕ, ◌+◌, ◌*◌, ◌<◌, ◌≤◌, cond, List, [], ◌∷◌, ◌++◌, length, take, drop, IfSome, Some, None, Ok, Err, Option, Result, MatchOption, nat_lt}
+-- How the printer goes on: what it takes off the bytes, and what it writes behind the text. Assumes nothing.
+use Rattle.std.specs.Prelude.{◌≡◌, ℕ, ◌+◌, ◌<◌, ◌≤◌, Bool, true, false, cond, List, [], ◌∷◌, ◌++◌, length, IfOk, Some, None, Ok, Err, Option, Result, MatchResult, nat_lt}
 use Rattle.forms.specs.Outlines.{type_offset}
 use Rattle.layout.specs.Groups.{bound}
 use Rattle.syntax.specs.declared.fault.Fault.{Fault}
 use Rattle.syntax.specs.declared.fault.Fault.TheVariants.{ShortBuffer, Unlawful}
-use Rattle.typing.specs.Heads.{Sort, place}
+use Rattle.syntax.specs.declared.label.Label.{Label}
+use Rattle.typing.specs.Heads.{Sort, type, place}
 use Rattle.typing.specs.Strings.{Typing, Status, formed, clashed, overlong, term_bytes}
-use Rattle.typing.specs.Terms.{Term, Sorted}
-use Rattle.type_text.specs.TypeTexts.{Part, over, front, parts}
-use Rattle.type_text.specs.declared.print.Printed.{Printed}
+use Rattle.typing.specs.Terms.{Term, var, head, ◌·◌, num, fun, rec, absent, present, Sorted}
+use Rattle.typing.specs.declared.head.Head.TheVariants.{Num, Fun, Rec, Absent, Present}
+use Rattle.typing.specs.declared.head.Token.{Token}
+use Rattle.typing.specs.declared.head.Token.TheVariants.{Head as OfHead, Variable}
+use Rattle.type_text.specs.TypeTexts.{Part, field_text, over, front, parts, type_text}
+use Rattle.type_text.specs.declared.print.Printer.{Printer}
 
 -- a term of this sort whose variables have tokens
 abbrev pub Spelt : Sort → Term → Type 0
@@ -26,20 +30,67 @@ abbrev pub places_bytes : List Term → List ℕ
 places_bytes [] = []
 places_bytes (t ∷ ts) = term_bytes t ++ places_bytes ts
 
--- A piece has been written at `at`; what stands before it and behind it is as it was.
-pub record Grew (piece : List ℕ) (at : ℕ) (before : List ℕ) (at' : ℕ) (after : List ℕ) : Type 0 where
-  pub long : at' ≡ at + length piece
-  pub ahead : take at' after ≡ take at before ++ piece
-  pub behind : drop at' after ≡ drop at' before
+-- what a type is that begins with this token, and what stands behind the token
+abbrev pub TypeAt : Token → Term → List ℕ → List ℕ → Type 0
+TypeAt (Variable k) t rest behind = (t ≡ var k) × (behind ≡ rest)
+TypeAt (OfHead Num) t rest behind = (t ≡ num) × (behind ≡ rest)
+TypeAt (OfHead Fun) t rest behind =
+    (a : Term) × (b : Term) × (t ≡ fun a b) × Spelt type a × Spelt type b × (behind ≡ term_bytes a ++ (term_bytes b ++ rest))
+TypeAt (OfHead Rec) t rest behind =
+    (ts : List Term) × (t ≡ rec ts) × AllPlaces ts × (length ts ≡ 4) × (behind ≡ places_bytes ts ++ rest)
+TypeAt (OfHead Absent) t rest behind = ⊥
+TypeAt (OfHead Present) t rest behind = ⊥
+
+-- the same of a place
+abbrev pub PlaceAt : Token → Term → List ℕ → List ℕ → Type 0
+PlaceAt (Variable k) t rest behind = (t ≡ var k) × (behind ≡ rest)
+PlaceAt (OfHead Num) t rest behind = ⊥
+PlaceAt (OfHead Fun) t rest behind = ⊥
+PlaceAt (OfHead Rec) t rest behind = ⊥
+PlaceAt (OfHead Absent) t rest behind = (t ≡ absent) × (behind ≡ rest)
+PlaceAt (OfHead Present) t rest behind = (a : Term) × (t ≡ present a) × Spelt type a × (behind ≡ term_bytes a ++ rest)
+
+-- The token of the term at the front has been taken; or no term stands there.
+abbrev pub TookToken : Printer → Printer → Result Token Fault → Type 0
+TookToken p p' r =
+    MatchResult r (λ token. ((t : Term) (rest : List ℕ) → Spelt type t → p.rest.now ≡ term_bytes t ++ rest → TypeAt token t rest p'.rest.now) × ((t : Term) (rest : List ℕ) → Spelt place t → p.rest.now ≡ term_bytes t ++ rest → PlaceAt token t rest p'.rest.now) × (p'.text.items ≡ p.text.items) × (length p'.rest.now < length p.rest.now))
+    (λ fault. (s : Sort) (t : Term) (rest : List ℕ) → Spelt s t → p.rest.now ≡ term_bytes t ++ rest → ⊥)
+
+-- the text has room for a piece
+abbrev pub Room : List ℕ → Printer → Type 0
+Room piece p = length p.text.items + length piece ≤ 4000
+
+-- a piece has been written behind the text; or there was no room for it
+abbrev pub Put : List ℕ → Printer → Printer → Result (Unit {0}) Fault → Type 0
+Put piece p p' r =
+    MatchResult r (λ _. (p'.rest.now ≡ p.rest.now) × (p'.text.items ≡ p.text.items ++ piece)) (λ _. Room piece p → ⊥)
 
 -- the piece has been written, and these bytes are left to print
-abbrev pub Shown : List ℕ → List ℕ → ℕ → List ℕ → List ℕ → Option Printed → Type 0
-Shown piece rest at before after r = MatchOption r ⊥ (λ p. (p.rest.now ≡ rest) × Grew piece at before p.at after)
+abbrev pub Shown : List ℕ → List ℕ → Printer → Printer → Result (Unit {0}) Fault → Type 0
+Shown piece rest p p' r = MatchResult r (λ _. (p'.rest.now ≡ rest) × (p'.text.items ≡ p.text.items ++ piece)) (λ _. ⊥)
 
--- no byte makes more than sixteen of text, beside what is written around
-abbrev pub Roomed : ℕ → List ℕ → ℕ → Option Printed → Type 0
-Roomed around bytes at r =
-    IfSome r (λ p. (length p.rest.now ≤ length bytes) × (p.at + 16 * length p.rest.now ≤ at + around + 16 * length bytes))
+-- whether a place shows anything
+abbrev pub shows : Term → Bool
+shows (var k) = true
+shows (head h) = false
+shows (f · x) = true
+
+-- the text of one field
+abbrev pub alone : Label → List ℕ → Term → List ℕ
+alone l gap t = field_text l gap t (type_text t) (λ _. [])
+
+-- the field of the place at the front has been written
+abbrev pub Fielded : Label → List ℕ → Printer → Printer → Result Bool Fault → Type 0
+Fielded l gap p p' r =
+    (t : Term) (rest : List ℕ) → Spelt place t → p.rest.now ≡ term_bytes t ++ rest → Room (alone l gap t) p → MatchResult r (λ shown. (shown ≡ shows t) × (p'.rest.now ≡ rest) × (p'.text.items ≡ p.text.items ++ alone l gap t)) (λ _. ⊥)
+
+-- fewer bytes are left
+abbrev pub Shorter : {A : Type 0} → Printer → Printer → Result A Fault → Type 0
+Shorter p p' r = IfOk r (λ _. length p'.rest.now < length p.rest.now)
+
+-- no more bytes are left
+abbrev pub NoLonger : Printer → Printer → Result (Unit {0}) Fault → Type 0
+NoLonger p p' r = IfOk r (λ _. length p'.rest.now ≤ length p.rest.now)
 
 -- where the type begins, unless it is refused
 abbrev pub status_at : Typing → Status → Result ℕ Fault

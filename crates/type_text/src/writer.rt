@@ -4,7 +4,7 @@ ghost use Rattle.typing.specs.Parsing.{read_typing};
 ghost use Rattle.type_text.specs.Prints.{admitted};
 ghost use Rattle.type_text.specs.TypeTexts.{TypeTextFits, WritesText, answer_text};
 
-use crate::print::print_type;
+use crate::print::Printer;
 use forms::outline::read_typing;
 use syntax::fault::Fault;
 
@@ -17,10 +17,11 @@ pub fn write_type(text: &[u8], out: &mut [u8]) -> Result<usize, Fault>
     ensures fits { TypeTextFits }
 {
     let at = admit(text, out.len())?;
-    match print_type(&text[at..], out, 0) {
-        Some(printed) => Ok(printed.at),
-        None => Err(Fault::Unlawful),
-    }
+    let mut printer = Printer::new(&text[at..]);
+    printer.print_type()?;
+    let printed = printer.text.as_slice();
+    out[..printed.len()].copy_from_slice(printed);
+    Ok(printed.len())
 }
 
 // Where the type begins. A buffer that is too short is refused, then a string that is not lawful or has

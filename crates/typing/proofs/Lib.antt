@@ -1,4 +1,3 @@
-pub mod Worked
 pub mod Finding
 pub mod Merging
 pub mod Occurs

@@ -1,6 +1,6 @@
 // The heads of types and of places, and the tokens that stand for heads and variables in a form.
 ghost use Rattle.std.specs.Prelude.{◌≡◌};
-ghost use Rattle.typing.specs.Heads.{head_of, meaning_of, token_of};
+ghost use Rattle.typing.specs.Heads.{meaning_of, token_of};
 
 // The token of the first variable. Those below are heads.
 const FIRST_VARIABLE: u32 = 5;
@@ -19,15 +19,6 @@ impl Head {
         ensures { result ≡ token_of self }
     {
         u32::from(self)
-    }
-
-    pub fn from_token(token: u32) -> Option<Head>
-        ensures { result ≡ head_of token }
-    {
-        match Token::from(token) {
-            Token::Head(head) => Some(head),
-            Token::Variable(_) => None,
-        }
     }
 }
 

@@ -7,7 +7,7 @@ pub returns-in_err-push_free : goal.returns-in_err-push_free
 returns-in_err-push_free t c = no_free _ _ _ _ _ (no_texts c.args.parts.now c.args.from (omega arith)) c.in_err-push_free.ensures
 
 pub returns-then-from-parts : goal.returns-then-from-parts
-returns-then-from-parts t c = no_child _ _ _ _ (no_texts c.args.parts.now c.args.from (omega arith)) c.in_ok-push_free.ensures.0
+returns-then-from-parts t c = no_child c.args.base _ _ _ (no_texts c.args.parts.now c.args.from (omega arith)) c.in_ok-push_free.ensures.0
 
 pub returns-in_err-outline : goal.returns-in_err-outline
 returns-in_err-outline t c =
@@ -22,9 +22,9 @@ returns-in_err-fresh t c =
 pub returns-in_err-cell : goal.returns-in_err-cell
 returns-in_err-cell t c =
     let lt : c.args.from < length c.args.parts.now = omega arith in
-    no_cell _ _ _ _ (text_at c.args.parts.now c.args.from _ lt) c.in_ok-outline.outline (sym c.in_ok-outline.ensures.value) _ (ap (λ w. c.args.base.cell + w) c.width.ensures) _ _ _ c.in_ok-fresh.ensures _ _ _ c.in_err-cell.ensures
+    no_cell _ _ _ _ (text_at c.args.parts.now c.args.from _ lt) c.in_ok-outline.outline (sym c.in_ok-outline.ensures.value) _ (ap (λ w. c.args.base.cell + w) c.width.ensures) c.in_ok-fresh.fresh _ _ c.in_ok-fresh.ensures _ _ _ c.in_err-cell.ensures
 
 pub returns : goal.returns
 returns t c =
     let lt : c.args.from < length c.args.parts.now = omega arith in
-    child_more _ _ _ _ (text_at c.args.parts.now c.args.from _ lt) c.in_ok-outline.outline (sym c.in_ok-outline.ensures.value) _ (ap (λ w. c.args.base.cell + w) c.width.ensures) _ _ _ c.in_ok-fresh.ensures _ _ _ (drop-set _ c.args.from _ (omega arith)) c.in_ok-cell.ensures
+    child_more _ _ _ _ (text_at c.args.parts.now c.args.from _ lt) c.in_ok-outline.outline (sym c.in_ok-outline.ensures.value) _ (ap (λ w. c.args.base.cell + w) c.width.ensures) c.in_ok-fresh.fresh _ _ c.in_ok-fresh.ensures _ _ _ (drop-set _ c.args.from _ (omega arith)) c.in_ok-cell.ensures

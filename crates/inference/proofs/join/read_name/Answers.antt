@@ -1,12 +1,8 @@
-use Rattle.std.proofs.Common.{drop, ◌∙◌, arith}
-use Rattle.std.proofs.lemmas.List.{take_all, length-drop}
-use Rattle.inference.proofs.ChildSteps.{name_short, name_read}
+use Rattle.std.proofs.Common.{take, drop, ap, ◌∙◌}
+use Rattle.std.proofs.lemmas.List.{drop_at, take_at}
 use Rattle.inference.proofs.join.read_name.Goals as goal
-
-pub returns-then-bytes-lt4 : goal.returns-then-bytes-lt4
-returns-then-bytes-lt4 c n rest long is = name_short _ n rest c.if-bytes-lt4.true long is
 
 pub returns : goal.returns
 returns c n rest long is =
-    let r = name_read _ n rest long is in
-    (r.0, take_all _ (drop 4 c.args.bytes.now) (omega (arith, length-drop 4 c.args.bytes.now)) ∙ r.1)
+    let parts = rw c.in_ok-name.ensures.ok_part at c.split_first_chunk.ensures.cases in
+    (parts.0 ∙ ap (take 4) is ∙ take_at n rest 4 long, parts.1 ∙ ap (drop 4) is ∙ drop_at n rest 4 long)

@@ -1,22 +1,17 @@
-use Rattle.std.proofs.Common.{◌≤◌, length, refl, arith}
+use Rattle.std.proofs.Common.{◌≤◌, length, arith}
 use Rattle.std.proofs.lemmas.List.{length-map}
 use Rattle.reading.specs.Readings.{texts}
-use Rattle.inference.proofs.NodeFacts.{few, room_children, fresh_bound, room_now, ready_now, concludes_now}
+use Rattle.inference.proofs.NodeFacts.{few, room_children, room_now, ready_now, concludes_now}
 use Rattle.inference.proofs.node.infer.Goals as goal
 
 pub add_children-requires : goal.add_children-requires
 add_children-requires c =
     let parts = c.args.parts.now in
     let small : length parts ≤ 3 = omega (arith, few c.args.symbol (texts parts) c.requires, length-map parts (λ slice. slice.now)) in
-    record { few = small; types = refl; from = omega arith; base = omega arith; empty = c.new-draft.ensures }
+    record { few = small; from = omega arith; base = omega arith; empty = c.new-draft.ensures }
 
 pub returns-in_err-fresh : goal.returns-in_err-fresh
 returns-in_err-fresh c = absurd (c.in_err-fresh.ensures _ c.requires.reads (room_children c.args.symbol _ c.requires))
-
-pub constrain-requires : goal.constrain-requires
-constrain-requires c =
-    let added = c.in_ok-fresh.ensures _ c.requires.reads (room_children c.args.symbol _ c.requires) in
-    record { fits = c.requires.fit; types = c.add_children.auto.types; fresh = fresh_bound c.args.symbol _ c.requires _ _ _ added }
 
 pub returns-in_err-result : goal.returns-in_err-result
 returns-in_err-result c =

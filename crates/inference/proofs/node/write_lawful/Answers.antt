@@ -1,16 +1,9 @@
-use Rattle.std.proofs.Common.{arith}
-use Rattle.std.proofs.lemmas.List.{length-map}
 use Rattle.reading.specs.Readings.{texts}
 use Rattle.std.proofs.lemmas.Bool.{both_ways}
 use Rattle.inference.specs.Tallies.{all_lawful}
 use Rattle.inference.proofs.LawfulNodes.{read_lawful}
-use Rattle.inference.proofs.NodeFacts.{few, rule_written}
+use Rattle.inference.proofs.NodeFacts.{rule_written}
 use Rattle.inference.proofs.node.write_lawful.Goals as goal
-
-pub sum_tallies-requires : goal.sum_tallies-requires
-sum_tallies-requires c =
-    let parts = c.args.parts.now in
-    omega (arith, few c.args.symbol (texts parts) c.requires.lawful, length-map parts (λ slice. slice.now))
 
 pub returns-in_err-sum_tallies : goal.returns-in_err-sum_tallies
 returns-in_err-sum_tallies c =

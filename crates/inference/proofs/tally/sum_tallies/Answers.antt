@@ -1,11 +1,7 @@
-use Rattle.std.proofs.Common.{Err, ap, ◌∙◌, arith}
+use Rattle.std.proofs.Common.{Err, ap, ◌∙◌}
 use Rattle.std.proofs.lemmas.Result.{err_from_is_err_and}
-use Rattle.inference.proofs.Tallying.{few_so_far, summed_stops, summed_more, summed_all}
+use Rattle.inference.proofs.Tallying.{summed_stops, summed_more, summed_all}
 use Rattle.inference.proofs.tally.sum_tallies.Goals as goal
-
-pub plus-sum-requires : goal.plus-sum-requires
-plus-sum-requires c =
-    record { others = few_so_far _ _ _ c.loop-part-test.true c.requires c.loop-part.invariant; child = c.in_ok-read_tally.ensures.held }
 
 pub returns-in_err-read_tally : goal.returns-in_err-read_tally
 returns-in_err-read_tally c =
@@ -14,8 +10,7 @@ returns-in_err-read_tally c =
 
 pub loop-part-preserved : goal.loop-part-preserved
 loop-part-preserved c =
-    let sum = c.plus-sum.ensures in
-    summed_more _ _ _ c.loop-part-test.true _ c.loop-part.invariant _ _ c.in_ok-read_tally.ensures sum.clashes sum.overlongs sum.holes
+    summed_more _ _ _ c.loop-part-test.true _ c.loop-part.invariant _ _ c.in_ok-read_tally.ensures c.plus-sum.ensures
 
 pub returns : goal.returns
-returns c = summed_all _ _ _ c.loop-part-test.false (omega (arith, c.requires, c.loop-part.auto.part-index-end)) c.loop-part.invariant
+returns c = summed_all _ _ _ c.loop-part-test.false c.loop-part.invariant

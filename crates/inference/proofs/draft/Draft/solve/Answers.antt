@@ -8,12 +8,6 @@ use Rattle.inference.proofs.DraftSteps.{entries_within}
 use Rattle.inference.proofs.Unifying.{long_after}
 use Rattle.inference.proofs.draft.Draft.solve.Goals as goal
 
-pub check_acyclic-requires : goal.check_acyclic-requires
-check_acyclic-requires c =
-    let d = c.args.self.now in
-    let long = long_after (graph_of d.table) _ c.unify.new.self.cells.now (pairs_of d.pairs) (c.new-graph.ensures ∙ c.as_mut_slice.ensures.value) c.requires.tidy c.requires.within c.in_ok-unify.ensures in
-    omega (arith, long, c.requires.roomy.cells)
-
 pub write_form-requires-clause-within : goal.write_form-requires-clause-within
 write_form-requires-clause-within c =
     let d = c.args.self.now in

@@ -15,7 +15,7 @@ descend-requires t c =
     let ms = c.args.marks.now in
     let r = c.root-top.result in
     let within : r < length ms = omega arith in
-    (omega (arith, entering_less ms r within c.in-Unseen.is, c.decreases), ((parts_within _ c.args.self.now.tidy r _ _ c.in-Apply.is).0, omega (arith, length-set ms r Open)))
+    (omega (arith, entering_less ms r within c.in-Unseen.is, c.decreases), (parts_within _ c.args.self.now.tidy r _ _ c.in-Apply.is).0)
 
 pub returns-in_err-descend : goal.returns-in_err-descend
 returns-in_err-descend t c =
@@ -27,7 +27,7 @@ descend-requires-in-Apply t c =
     let ms = c.args.marks.now in
     let r = c.root-top.result in
     let within : r < length ms = omega arith in
-    (omega (arith, entering_less ms r within c.in-Unseen.is, c.decreases, c.in_ok-descend.ensures.fewer), ((parts_within _ c.args.self.now.tidy r _ _ c.in-Apply.is).1, omega (arith, c.descend.auto.marks, length-set ms r Open)))
+    (omega (arith, entering_less ms r within c.in-Unseen.is, c.decreases, c.in_ok-descend.ensures.fewer), (parts_within _ c.args.self.now.tidy r _ _ c.in-Apply.is).1)
 
 pub returns-in_err-descend-2 : goal.returns-in_err-descend-2
 returns-in_err-descend-2 t c =
