@@ -1,9 +1,7 @@
 -- Places in a list, and texts put into a buffer. Assumes nothing.
-use Rattle.std.proofs.Common.{◌≡◌, ℕ, suc, ◌+◌, ◌-◌, ◌≤◌, Bool, true, false, cond, eqb, ltb, List, [], ◌∷◌, ◌++◌, length, take, drop, Some, None, Option, refl, ap, ◌∙◌, ap₂, arith}
-use borrow.Rule.Slice.PartMut.{put_mid}
+use Rattle.std.proofs.Common.{◌≡◌, ℕ, suc, ◌≤◌, Bool, true, false, cond, eqb, ltb, List, [], ◌∷◌, length, Some, None, Option, refl, ap, ◌∙◌, arith}
 use Rattle.std.specs.List.{position_or_len}
 use Rattle.std.specs.Option.{unwrap_or}
-use Rattle.std.proofs.lemmas.List.{drop-drop}
 use Rattle.std.proofs.lemmas.Bool.{ltb-false}
 use Rattle.std.proofs.lemmas.List.Recursion.{is_position_or_len}
 use Rattle.typing.specs.Solve.{position}
@@ -26,9 +24,3 @@ place_is n l r is le = ap (λ o. unwrap_or o l) is ∙ by_test (ltb n l) refl
     by_test : (b : Bool) → ltb n l ≡ b → unwrap_or (cond b (Some n) None) l ≡ n
     by_test true lt = refl
     by_test false past = omega (arith, le, ltb-false n l past)
-
--- a buffer with a text written into it
-pub put_at_lem : (out ys text : List ℕ) (at n : ℕ) → ys ≡ text → length text ≡ n → put_mid at ((at + n) - at) out ys ≡ take at out ++ (text ++ drop (at + length text) out)
-put_at_lem out ys text at n is long =
-    let behind : at + ((at + n) - at) ≡ at + length text = omega (arith, long) in
-    ap₂ (λ (y z : List ℕ). take at out ++ (y ++ z)) is (drop-drop ((at + n) - at) at out ∙ ap (λ m. drop m out) behind)

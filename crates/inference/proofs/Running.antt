@@ -1,7 +1,7 @@
 -- A run of a work list: what each turn keeps. Assumes nothing.
 use Rattle.std.proofs.Common.{◌≡◌, ℕ, ◌+◌, ◌*◌, ◌<◌, ◌≤◌, [], ◌∷◌, ◌++◌, length, reverse, Some, None, Option, refl, sym, ap, ◌∙◌, subst, subst₂, arith, length-append}
 use Rattle.std.proofs.lemmas.List.{reverse-append, length-reverse}
-use Rattle.typing.specs.Cells.{Graph, Pairs, clash, more, step, after, unify}
+use Rattle.typing.specs.Cells.{Graph, Pairs, more, step, after, unify}
 use Rattle.typing.specs.Solutions.{Tidy, Within, live}
 use Rattle.typing.proofs.Merging.{Kept, Sound, step_sound, unify_step, live_length}
 
@@ -24,14 +24,8 @@ module _ (start : Graph) (pairs : Pairs) (g : Graph) (tidy : Tidy (length g) g) 
   here : Going start pairs g (p ∷ reverse rest)
   here = subst (Going start pairs g) (ap reverse top ∙ reversed_push rest p) going
 
-  pub pair_within : (p.0 < length g) × (p.1 < length g)
-  pair_within = (here.within.0, here.within.1)
-
   next : unify g (p ∷ reverse rest) ≡ after (step g (p ∷ reverse rest)) unify
   next = unify_step (length g) g (p ∷ reverse rest) tidy here.within
-
-  pub clashed : step g (p ∷ reverse rest) ≡ clash → None ≡ unify start pairs
-  clashed is = sym (next ∙ ap (λ o. after o unify) is) ∙ here.same
 
   -- a step that leaves so many more pairs
   module _ (g' : Graph) (parts stack' : Pairs) (is : step g (p ∷ reverse rest) ≡ more g' (parts ++ reverse rest)) (few : length parts ≤ 2) (these : reverse stack' ≡ parts ++ reverse rest) where
@@ -75,11 +69,6 @@ module _ (start : Graph) (pairs : Pairs) (g : Graph) (tidy : Tidy (length g) g) 
 
     pub parts_room : length one < 1440
     parts_room = omega (arith, parted.room, length-reverse two, ap length second, length-append one (f ∷ []))
-
--- no pair is left
-pub finished : (start : Graph) (pairs : Pairs) (g : Graph) (stack : Pairs) → Tidy (length g) g → length stack ≡ 0 → Going start pairs g (reverse stack) → Some g ≡ unify start pairs
-finished start pairs g [] tidy none going = sym (unify_step (length g) g [] tidy tt) ∙ going.same
-finished start pairs g (p ∷ ps) tidy none going = absurd (omega (arith, none))
 
 pub none_left : {A : Type 0} (o : Option A) → ((x : A) → o ≡ Some x → ⊥) → o ≡ None
 none_left None isnt = refl

@@ -1,5 +1,5 @@
 -- The string that is written of an outcome is that of the node's typing. Assumes nothing.
-use Rattle.std.proofs.Common.{◌≡◌, ◌+◌, ◌≤◌, min, true, false, cond, leb, List, ◌∷◌, ◌++◌, length, Some, None, Option, Ok, Err, sym, refl, ap, subst, ap₂, arith}
+use Rattle.std.proofs.Common.{◌≡◌, ◌+◌, min, true, false, cond, leb, List, ◌∷◌, ◌++◌, length, Some, None, Option, Ok, Err, sym, refl, subst, ap₂, arith}
 use Rattle.std.proofs.lemmas.Bool.{le-leb, lt-leb}
 use Rattle.layout.specs.Groups.{group}
 use Rattle.syntax.specs.declared.kind.Kind.{Kind}
@@ -30,12 +30,6 @@ shows (Some F) (Ok t) ends =
 shows (Some F) (Err Overlong) ends =
     let long : leb (length (form_bytes F)) longest ≡ false = lt-leb _ _ ends in
     subst (λ b. Shows (cond b (formed F) overlong) (Err Overlong)) (sym long) (record { byte = refl; bytes = refl; clash = refl; overlong = refl })
-
--- what there is of a form is not too long
-pub bytes_short : (o : Option Form) (r : Outcome) → Concludes o r → length (bytes_of r) ≤ longest
-bytes_short None (Ok t) ends = absurd ends
-bytes_short (Some F) (Ok t) ends = omega (arith, ends.1, ap length ends.0)
-bytes_short o (Err u) ends = omega arith
 
 -- the counts of a node's typing
 pub record Counts (T : Typing) (t : Tally) : Type 0 where

@@ -273,29 +273,14 @@ come_back n g ms i tidy closed sinks = by_test (cases_Bool (acyclic g))
 
 -- the walks from the first cells are done
 pub record Sofar (g : Graph) (ms : List Mark) (i : ℕ) : Type 0 where
-  pub long : length g ≤ length ms
   pub closed : (o : ℕ) → mark ms o ≡ Open → ⊥
   pub ranked : Ranked g ms
   pub done : (j : ℕ) → j < i → mark ms (find g j) ≡ Done
 
-pub sofar_none : (g : Graph) (ms : List Mark) → length g ≤ length ms → Fresh ms → Sofar g ms 0
-sofar_none g ms long fresh =
+pub sofar_none : (g : Graph) (ms : List Mark) → Fresh ms → Sofar g ms 0
+sofar_none g ms fresh =
     record {
-      long = long;
       closed = λ o is. unseen≢open (sym (fresh o) ∙ is);
       ranked = ((λ o. 0), λ o is. absurd (unseen≢done (sym (fresh o) ∙ is)));
       done = λ j less. absurd (omega arith);
     }
-
-pub sofar_more : (g : Graph) (ms ms' : List Mark) (i : ℕ) → length ms' ≡ length ms → Sofar g ms i → Walked g ms i ms' → Sofar g ms' (i + 1)
-sofar_more g ms ms' i same sofar walked =
-    record {
-      long = omega (arith, same, sofar.long);
-      closed = λ o is. sofar.closed o (walked.opened o is);
-      ranked = walked.ranked sofar.ranked;
-      done = λ j less. by_place j less (cases_eq j i);
-    }
-  where
-    by_place : (j : ℕ) → j < i + 1 → (j ≡ i) ⊎ (j ≡ i → ⊥) → mark ms' (find g j) ≡ Done
-    by_place j less (inl e) = ap (λ x. mark ms' (find g x)) e ∙ walked.reached
-    by_place j less (inr ne) = walked.still_done (find g j) (sofar.done j (omega (arith, ne)))

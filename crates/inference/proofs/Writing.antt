@@ -1,18 +1,15 @@
 -- A term that is written cell by cell. Assumes nothing.
-use Rattle.std.proofs.Common.{◌≡◌, ℕ, suc, ◌+◌, ◌-◌, ◌<◌, ◌≤◌, Bool, true, false, cond, ◌⊎◌, List, [], ◌∷◌, ◌++◌, length, Ok, Err, Result, sym, refl, ap, ◌∙◌, subst, ap₂, inl, inr, arith, length-append}
+use Rattle.std.proofs.Common.{◌≡◌, ℕ, suc, ◌+◌, ◌-◌, ◌<◌, ◌≤◌, Bool, true, false, cond, List, [], ◌∷◌, ◌++◌, length, Ok, Err, Result, sym, refl, ap, ◌∙◌, subst, ap₂, arith, length-append}
 use Rattle.std.proofs.lemmas.List.{append_assoc}
 use Rattle.layout.specs.Groups.{group}
 use Rattle.layout.proofs.Groups.{groups_some}
 use Rattle.typing.specs.Cells.{Graph, cell, find, unroll, readback}
-use Rattle.typing.specs.Heads.{token_of}
 use Rattle.typing.specs.Solve.{member, position}
 use Rattle.typing.specs.Strings.{longest}
-use Rattle.typing.specs.Terms.{Term, var, head, ◌·◌}
+use Rattle.typing.specs.Terms.{Term, var, ◌·◌}
 use Rattle.typing.specs.declared.cell.Cell.{Cell}
-use Rattle.typing.specs.declared.cell.Cell.TheVariants.{Free as free, Link as link}
-use Rattle.typing.specs.declared.head.Head.{Head}
 use Rattle.typing.proofs.Numbering.{position_here}
-use Rattle.inference.specs.Writings.{Added, seen_after, spelled, Writes}
+use Rattle.inference.specs.Writings.{seen_after, spelled, Writes}
 use Rattle.inference.specs.declared.script.Script.{Script}
 use Rattle.inference.specs.declared.writer.TooLong.{TooLong}
 use Rattle.inference.proofs.Spelling.{position_none, spelled_variable, spelled_apply, seen_apply}
@@ -47,10 +44,6 @@ module _ (g : Graph) (depth i r : ℕ) (deep : depth ≡ 0 → ⊥) (root : r �
       let more : depth ≡ suc (depth - 1) = omega (arith, deep) in
       ap (λ d. readback d g i) more ∙ ap (λ z. unroll (cell g z) z (readback (depth - 1) g)) (sym root) ∙ ap (λ z. unroll z r (readback (depth - 1) g)) is
 
-  pub read_variable : (cell g r ≡ free) ⊎ ((j : ℕ) × (cell g r ≡ link j)) → readback depth g i ≡ var r
-  read_variable (inl is) = at_root free is
-  read_variable (inr is) = at_root (link is.0) is.1
-
 -- a term that is the one written
 pub writes_as : (t u : Term) (s s' : Script) (r : Result (Unit {0}) TooLong) → t ≡ u → Writes u s s' r → Writes t s s' r
 writes_as t u s s' r is = subst (λ z. Writes z s s' r) (sym is)
@@ -73,7 +66,3 @@ writes_apply f x s s' s'' (Ok u) first second =
 pub full_apply : (t f x : Term) (before seen : List ℕ) → t ≡ f · x → longest < length before + length (spelled seen f) → longest < length before + length (spelled seen t)
 full_apply t f x before seen is full =
     omega (arith, full, ap (λ z. length (spelled seen z)) is ∙ ap length (spelled_apply f x seen), length-append (spelled seen f) (spelled (seen_after seen f) x))
-
-pub writes_head : (h : Head) (n : ℕ) (s s' : Script) (r : Result (Unit {0}) TooLong) → n ≡ token_of h → Added (group n) s s' r → Writes (head h) s s' r
-writes_head h n s s' (Ok u) is added = (added.0 ∙ ap (λ m. s.text.items ++ group m) is, added.1)
-writes_head h n s s' (Err e) is full = omega (arith, full, ap (λ m. length (group m)) is)

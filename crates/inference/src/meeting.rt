@@ -27,15 +27,11 @@ fn meet(low: Cell, high: Cell) -> Result<(Cell, Option<Parts>), Clash>
         (Cell::Atom(_) | Cell::Apply(_, _), Cell::Free) => Ok((low, None)),
         (Cell::Atom(h), Cell::Atom(k)) if h == k => Ok((low, None)),
         (Cell::Apply(a, b), Cell::Apply(c, d)) => {
-            let functions = (a, c);
-            let arguments = (b, d);
-            Ok((
-                low,
-                Some(Parts {
-                    functions,
-                    arguments,
-                }),
-            ))
+            let parts = Parts {
+                functions: (a, c),
+                arguments: (b, d),
+            };
+            Ok((low, Some(parts)))
         }
         _ => Err(Clash),
     }

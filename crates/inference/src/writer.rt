@@ -86,7 +86,7 @@ impl Script {
         let found = graph.cells[top];
         match found {
             Cell::Free | Cell::Link(_) => self.write_variable(top),
-            Cell::Atom(head) => self.push_group(head.token()),
+            Cell::Atom(head) => self.push_group(u32::from(head)),
             Cell::Apply(function, argument) => {
                 self.write_cell(graph, depth - 1, function)?;
                 self.write_cell(graph, depth - 1, argument)

@@ -14,14 +14,6 @@ pub enum Head {
     Present,
 }
 
-impl Head {
-    pub fn token(self) -> u32
-        ensures { result ≡ token_of self }
-    {
-        u32::from(self)
-    }
-}
-
 impl From<Head> for u32 {
     ghost from_gives = { λ head token. token ≡ token_of head };
 

@@ -4,7 +4,7 @@ use Rattle.inference.proofs.Walking.{all_walked, come_back, sofar_none}
 use Rattle.inference.proofs.graph.Graph.check_acyclic.Goals as goal
 
 pub loop-i-init : goal.loop-i-init
-loop-i-init c = sofar_none _ _ (omega (arith, c.requires, c.unmarked-marks.ensures.long)) c.unmarked-marks.ensures.fresh
+loop-i-init c = sofar_none _ _ c.unmarked-marks.ensures
 
 pub returns-in_err-descend : goal.returns-in_err-descend
 returns-in_err-descend c =
