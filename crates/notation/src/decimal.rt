@@ -44,10 +44,5 @@ pub(crate) fn push_decimal(text: &mut Text, n: u32)
     ensures bytes { text_of text.new ≡ text_of text.old ++ decimal n }
     ensures len { length (text_of text.new) ≡ length (text_of text.old) + length (decimal n) }
 {
-    if n < 10 {
-        text.push(b'0' + n as u8);
-    } else {
-        push_decimal(text, n / 10);
-        text.push(b'0' + (n % 10) as u8);
-    }
+    text.append(itoa::Buffer::new().format(n).as_bytes());
 }

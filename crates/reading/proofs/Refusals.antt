@@ -1,6 +1,7 @@
 -- Why a question is refused, test by test. Assumes nothing.
-use Rattle.std.proofs.Common.{◌≡◌, ℕ, ◌+◌, ◌<◌, ◌≤◌, true, false, cond, ◌&&◌, eqb, List, length, get_or, drop, Some, None, sym, ap, ◌∙◌, Bor}
-use Rattle.std.proofs.lemmas.List.{drop_more, drop_all, length-map}
+use Rattle.std.proofs.Common.{◌≡◌, ℕ, ◌<◌, ◌≤◌, true, false, cond, ◌&&◌, eqb, List, [], ◌∷◌, length, Some, None, refl, sym, ap, ◌∙◌, Bor}
+use Rattle.std.specs.List.{list_all}
+use Rattle.std.proofs.lemmas.List.{length-map}
 use Rattle.std.proofs.lemmas.Bool.{lt-ltb, le-leb, eq-eqb, ne_eqb, and_from, and_left, and_right}
 use Rattle.syntax.specs.Arguments.{fits}
 use Rattle.syntax.specs.Kinds.{arity}
@@ -8,16 +9,10 @@ use Rattle.syntax.specs.declared.argument.Symbol.{Symbol}
 use Rattle.syntax.specs.declared.fault.Fault.TheVariants.{Unlawful}
 use Rattle.reading.specs.Readings.{Meaning, allows_all, suits, refusal, texts, meter_end}
 
--- a test of each string goes on, or ends
-module _ (m : Meaning) (slices : List (Bor (List ℕ))) (i : ℕ) (d : Bor (List ℕ)) (within : i < length slices) where
-  pub all_goes : m.allows (get_or slices i d).now ≡ true → allows_all m (texts (drop i slices)) ≡ allows_all m (texts (drop (i + 1) slices))
-  all_goes is = ap (λ z. allows_all m (texts z)) (drop_more slices i d within) ∙ ap (λ b. b && allows_all m (texts (drop (i + 1) slices))) is
-
-  pub all_stops : m.allows (get_or slices i d).now ≡ false → allows_all m (texts (drop i slices)) ≡ false
-  all_stops is = ap (λ z. allows_all m (texts z)) (drop_more slices i d within) ∙ ap (λ b. b && allows_all m (texts (drop (i + 1) slices))) is
-
-pub all_ends : (m : Meaning) (slices : List (Bor (List ℕ))) (i : ℕ) → length slices ≤ i → allows_all m (texts (drop i slices)) ≡ true
-all_ends m slices i past = ap (λ z. allows_all m (texts z)) (drop_all i slices past)
+-- every string is allowed
+pub all_allowed : (m : Meaning) (slices : List (Bor (List ℕ))) → list_all (λ (s : Bor (List ℕ)). m.allows s.now) slices ≡ allows_all m (texts slices)
+all_allowed m [] = refl
+all_allowed m (s ∷ ss) = ap (λ b. m.allows s.now && b) (all_allowed m ss)
 
 -- a question that the first three tests let through
 module _ (m : Meaning) (meter : ℕ) (s : Symbol) (slices : List (Bor (List ℕ))) (room : ℕ) (fit : fits s ≡ true) (some : meter < meter_end) (long : m.bound ≤ room) where

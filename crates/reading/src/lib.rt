@@ -62,10 +62,8 @@ pub trait Reading {
         if parts.len() != symbol.kind.arity() {
             return Err(Fault::Unlawful);
         }
-        for part in parts {
-            if !self.lawful(part) {
-                return Err(Fault::Unlawful);
-            }
+        if !parts.iter().all(|part| self.lawful(part)) {
+            return Err(Fault::Unlawful);
         }
         Ok(())
     }

@@ -1,6 +1,5 @@
-use Rattle.std.proofs.Common.{arith}
 use Rattle.notation.specs.Texts.{text_of}
-use Rattle.notation.proofs.EditLines.{adds_made, at_within, wrote_some}
+use Rattle.notation.proofs.EditLines.{adds_made, wrote_some}
 use Rattle.notation.proofs.edit_lines.write_line.Goals as goal
 
 pub returns : goal.returns
