@@ -1,10 +1,10 @@
 -- Adding the children of a node to a draft, the last one first. Assumes nothing.
-use Rattle.std.proofs.Common.{◌≡◌, ℕ, zero, suc, ◌+◌, ◌<◌, ◌≤◌, List, [], ◌∷◌, length, get_or, drop, Some, Ok, Err, Result, sym, refl, ap, ◌∙◌, subst, arith, Bor}
-use Rattle.std.proofs.lemmas.List.{drop_more, drop_all}
+use Rattle.std.proofs.Common.{◌≡◌, ℕ, ◌+◌, ◌-◌, ◌≤◌, List, [], ◌∷◌, ◌++◌, length, set, Some, Ok, Err, Result, sym, refl, ap, ◌∙◌, subst, arith}
+use borrow.Rule.Slice.PartMut.{put_mid}
+use Rattle.std.proofs.lemmas.List.{append-nil, drop_all}
 use Rattle.syntax.specs.declared.fault.Fault.{Fault}
 use Rattle.forms.specs.Outlines.{outlined, outline_of}
 use Rattle.forms.specs.declared.outline.Outline.{Outline}
-use Rattle.reading.specs.Readings.{texts}
 use Rattle.typing.specs.Constraints.{joined, width}
 use Rattle.typing.specs.Forms.{Form}
 use Rattle.typing.specs.Parsing.{read_typing}
@@ -99,19 +99,7 @@ module _ (base : ℕ) (whole : List (List ℕ)) (text : List ℕ) (ss : List (Li
       pub child_more : (S' : State) (cell : ℕ) (types : List ℕ) → types ≡ cell ∷ types₁ → AddsChild base text S₁ S' (Ok cell) → AddsAll base whole S' types (Ok fresh)
       child_more S' cell types is adds = of_whole S' types (Ok fresh) (subst (λ cs. AddsAll base (text ∷ ss) S' cs (Ok fresh)) (sym is) (first_child_more S' cell adds))
 
--- the strings from one on
-text_got : (parts : List (Bor (List ℕ))) (from : ℕ) (d : Bor (List ℕ)) → get_or (texts parts) from d.now ≡ (get_or parts from d).now
-text_got [] from d = refl
-text_got (p ∷ parts) zero d = refl
-text_got (p ∷ parts) (suc from) d = text_got parts from d
-
-texts_long : (parts : List (Bor (List ℕ))) → length (texts parts) ≡ length parts
-texts_long [] = refl
-texts_long (p ∷ parts) = ap suc (texts_long parts)
-
-pub text_at : (parts : List (Bor (List ℕ))) (from : ℕ) (d : Bor (List ℕ)) → from < length parts → drop from (texts parts) ≡ (get_or parts from d).now ∷ drop (from + 1) (texts parts)
-text_at parts from d lt =
-    drop_more (texts parts) from d.now (omega (arith, texts_long parts)) ∙ ap (λ s. s ∷ drop (from + 1) (texts parts)) (text_got parts from d)
-
-pub no_texts : (parts : List (Bor (List ℕ))) (from : ℕ) → length parts ≤ from → drop from (texts parts) ≡ []
-no_texts parts from past = drop_all from (texts parts) (omega (arith, texts_long parts))
+-- the cell of the first child, before those of the others
+pub first_put : (xs ys : List ℕ) (cell : ℕ) → 1 ≤ length xs → set (put_mid 1 (length xs - 1) xs ys) 0 cell ≡ cell ∷ ys
+first_put [] ys cell some = absurd (omega (arith, some))
+first_put (x ∷ xs) ys cell some = ap (λ z. cell ∷ z) (ap (λ z. ys ++ z) (drop_all (length (x ∷ xs) - 1) xs (omega arith)) ∙ append-nil ys)

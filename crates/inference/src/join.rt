@@ -1,5 +1,5 @@
 // The forms of a node's children, joined in a draft: each over cells of its own for its variables.
-ghost use Rattle.std.specs.Prelude.{◌≡◌, ◌*◌, ◌≤◌, length, drop, IfOk, Ok};
+ghost use Rattle.std.specs.Prelude.{◌≡◌, ◌+◌, ◌*◌, ◌≤◌, length, drop, IfOk, Ok};
 ghost use Rattle.forms.specs.Outlines.{outlined};
 ghost use Rattle.reading.specs.Readings.{texts};
 ghost use Rattle.typing.specs.Parsing.{read_typing};
@@ -79,32 +79,28 @@ fn width(outline: Outline) -> usize
     outline.form.map_or(1, |form| form.variables)
 }
 
-// Adds the children from one on to an empty draft, the last one first, each over cells of its own. The
-// cells of their types are put among `types`, and the answer is the first cell that no child has.
+// Adds children to an empty draft, the last one first, each over cells of its own. The cells of their
+// types are put at the front of `types`, and the answer is the first cell that no child has.
 pub(crate) fn add_children(
     parts: &[&[u8]],
-    from: usize,
     base: Base,
     draft: &mut Draft,
-    types: &mut [usize; 3],
+    types: &mut [usize],
 ) -> Result<Base, Fault>
-    requires few { length parts.now ≤ 3 }
-    requires from { from ≤ length parts.now }
-    requires base { base.cell ≤ 240 * from }
+    requires types { length parts.now ≤ length types.old }
+    requires base { base.cell + 240 * length parts.now ≤ 1440 }
     requires empty { state_of draft.old ≡ unknowns 0 }
-    ensures { AddsAll base.cell (drop from (texts parts.now)) (state_of draft.new) (drop from types.new) result }
+    ensures { AddsAll base.cell (texts parts.now) (state_of draft.new) types.new result }
 {
-    if from == parts.len() {
+    let Some((text, others)) = parts.split_first() else {
         draft.push_free(base.cell + SPARE)?;
         return Ok(base);
-    }
-    let text = parts[from];
+    };
     let outline = read_child(text)?;
     let next = Base {
         cell: base.cell + width(outline),
     };
-    let fresh = add_children(parts, from + 1, next, draft, types)?;
-    let cell = add_child(text, outline, base, draft)?;
-    types[from] = cell;
+    let fresh = add_children(others, next, draft, &mut types[1..])?;
+    types[0] = add_child(text, outline, base, draft)?;
     Ok(fresh)
 }

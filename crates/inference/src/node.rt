@@ -24,7 +24,7 @@ fn infer(symbol: Symbol, parts: &[&[u8]]) -> Result<Outcome, Fault>
 {
     let mut draft = Draft::new();
     let mut types = [0; 3];
-    let fresh = add_children(parts, 0, Base { cell: 0 }, &mut draft, &mut types)?;
+    let fresh = add_children(parts, Base { cell: 0 }, &mut draft, &mut types)?;
     let result = constrain(symbol, fresh, &types, &mut draft)?;
     Ok(draft.solve(result))
 }

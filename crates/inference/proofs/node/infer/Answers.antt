@@ -8,7 +8,7 @@ pub add_children-requires : goal.add_children-requires
 add_children-requires c =
     let parts = c.args.parts.now in
     let small : length parts ≤ 3 = omega (arith, few c.args.symbol (texts parts) c.requires, length-map parts (λ slice. slice.now)) in
-    record { few = small; from = omega arith; base = omega arith; empty = c.new-draft.ensures }
+    record { types = omega (arith, small); base = omega (arith, small); empty = c.new-draft.ensures }
 
 pub returns-in_err-fresh : goal.returns-in_err-fresh
 returns-in_err-fresh c = absurd (c.in_err-fresh.ensures _ c.requires.reads (room_children c.args.symbol _ c.requires))
