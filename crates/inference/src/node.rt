@@ -40,15 +40,9 @@ fn write_lawful(symbol: Symbol, parts: &[&[u8]], out: &mut [u8]) -> Result<usize
     Ok(write_string(&outcome, tally, out))
 }
 
-// Whether a string is a typing string.
+// Whether a string is a typing string, where every byte of a slice is one.
+#[tactic(auto, using(crate::proofs::ChildFacts::all_bytes_lem))]
 pub fn is_allowed(text: &[u8]) -> bool
-    ensures { result ≡ allowed text.now }
-{
-    is_typing(text)
-}
-
-// The same, since a slice holds nothing but bytes.
-fn is_typing(text: &[u8]) -> bool
     ensures { result ≡ allowed text.now }
 {
     is_lawful(text)

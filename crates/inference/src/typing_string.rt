@@ -36,7 +36,6 @@ pub(crate) fn write_string(outcome: &Outcome, tally: Tally, out: &mut [u8]) -> u
     requires clashes { tally.clashes ≤ most }
     requires overlongs { tally.overlongs ≤ most }
     requires holes { tally.holes ≤ most }
-    requires form { length (bytes_of outcome.now) ≤ longest }
     requires room { 247 ≤ length out.old }
     ensures long { result ≡ length (string_of outcome.now tally) }
     ensures wrote { out.new ≡ string_of outcome.now tally ++ drop result out.old }
