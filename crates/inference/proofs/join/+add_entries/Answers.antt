@@ -1,8 +1,5 @@
-use Rattle.inference.proofs.ChildSteps.{entries_none, no_name, no_type, no_entries, no_put, entries_more}
+use Rattle.inference.proofs.ChildSteps.{no_name, no_type, no_entries, no_put, entries_more}
 use Rattle.inference.proofs.join.+add_entries.Goals as goal
-
-pub returns-then-count-eq0 : goal.returns-then-count-eq0
-returns-then-count-eq0 t c = entries_none _ _ c.args.bytes _ c.if-count-eq0.true
 
 pub returns-in_err-name : goal.returns-in_err-name
 returns-in_err-name t c = no_name _ _ _ _ c.if-count-eq0.false _ _ c.in_err-name.ensures

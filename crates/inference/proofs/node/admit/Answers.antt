@@ -2,15 +2,9 @@ use Rattle.std.proofs.Common.{◌≡◌, ◌≤◌, true, sym, ◌∙◌, arith,
 use Rattle.std.proofs.lemmas.Iterator.{YieldsList-from_slice}
 use Rattle.std.proofs.lemmas.Iterator.Search.{all_from_yields_List}
 use Rattle.syntax.specs.Arguments.{fits}
-use Rattle.reading.proofs.Refusals.{all_allowed, by_number, by_string, by_none}
+use Rattle.reading.proofs.Refusals.{all_allowed, by_string, by_none}
 use Rattle.inference.specs.Nodes.{allowed, typed}
 use Rattle.inference.proofs.node.admit.Goals as goal
-
-pub returns-then-parts-arity : goal.returns-then-parts-arity
-returns-then-parts-arity c =
-    let fit : fits c.args.symbol ≡ true = search rules in
-    let long : 247 ≤ c.args.room = omega arith in
-    by_number typed 0 c.args.symbol _ _ fit (omega arith) long (λ e. c.if-parts-arity.true (e ∙ sym c.arity.ensures))
 
 pub returns-then-not-all : goal.returns-then-not-all
 returns-then-not-all c =

@@ -1,14 +1,5 @@
-use Rattle.std.proofs.Common.{◌≤◌, length, arith}
-use Rattle.std.proofs.lemmas.List.{length-map}
-use Rattle.reading.specs.Readings.{texts}
-use Rattle.inference.proofs.NodeFacts.{few, room_children, room_now, ready_now, concludes_now}
+use Rattle.inference.proofs.NodeFacts.{room_children, room_now, ready_now, concludes_now}
 use Rattle.inference.proofs.node.infer.Goals as goal
-
-pub add_children-requires : goal.add_children-requires
-add_children-requires c =
-    let parts = c.args.parts.now in
-    let small : length parts ≤ 3 = omega (arith, few c.args.symbol (texts parts) c.requires, length-map parts (λ slice. slice.now)) in
-    record { types = omega (arith, small); base = omega (arith, small); empty = c.new-draft.ensures }
 
 pub returns-in_err-fresh : goal.returns-in_err-fresh
 returns-in_err-fresh c = absurd (c.in_err-fresh.ensures _ c.requires.reads (room_children c.args.symbol _ c.requires))

@@ -1,6 +1,4 @@
-use Rattle.std.proofs.Common.{◌+◌, ◌-◌, length, sym, ap, ◌∙◌, subst, arith, length-append}
-use Rattle.layout.specs.SymbolBytes.{symbol_bytes}
-use Rattle.layout.proofs.Forests.{symbol_some}
+use Rattle.std.proofs.Common.{◌+◌, ◌-◌, sym, subst, arith}
 use Rattle.layout.proofs.Scans.{Owed, owed_short, owed_missing, owed_done, owed_more, levels_some}
 use Rattle.layout.proofs.scan.pass_over.Goals as goal
 

@@ -1,6 +1,6 @@
-use Rattle.std.proofs.Common.{◌+◌, ◌*◌, ◌∷◌, ◌++◌, length, sym, ap, ◌∙◌, ap₂, arith}
+use Rattle.std.proofs.Common.{◌+◌, ◌*◌, ◌∷◌, ◌++◌, sym, ap, ◌∙◌, ap₂, arith}
 use Rattle.question.specs.Digits.{unhex}
-use Rattle.question.proofs.HexTexts.{string_pairs, pair_from, front_more, front_ends}
+use Rattle.question.proofs.HexTexts.{pair_from, front_more}
 use Rattle.question.proofs.digits.unhex.Goals as goal
 
 pub loop-pair-preserved : goal.loop-pair-preserved

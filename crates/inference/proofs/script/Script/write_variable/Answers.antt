@@ -1,17 +1,11 @@
-use Rattle.std.proofs.Common.{[], ◌∷◌, ◌++◌, length, sym, ap, ◌∙◌, arith}
+use Rattle.std.proofs.Common.{[], ◌∷◌, ◌++◌, length, sym, ap, ◌∙◌}
 use Rattle.std.proofs.lemmas.Result.{MatchResult-from_err}
-use Rattle.inference.proofs.Writing.{variable_full, variable_new, variable_old, room_seen}
+use Rattle.inference.proofs.Writing.{variable_full, variable_new, variable_old}
 use Rattle.inference.proofs.script.Script.write_variable.Goals as goal
 
 pub returns-in_err-push_group : goal.returns-in_err-push_group
 returns-in_err-push_group c =
     MatchResult-from_err _ _ _ c.from_residual.ensures.0 (λ e. variable_full c.args.cell _ c.args.self.now.seen.items c.place-place.ensures.value _ c.in_err-push_group.ensures)
-
-pub push-requires : goal.push-requires
-push-requires c =
-    let added = c.in_ok-push_group.ensures in
-    let room = room_seen c.place-place.result _ c.args.self.now.text.items _ c.args.self.now.fewer added.0 c.push_group.new.self.short in
-    (omega arith, omega (arith, room, ap length added.1))
 
 pub returns-then-place-len : goal.returns-then-place-len
 returns-then-place-len c =

@@ -1,6 +1,6 @@
-use Rattle.std.proofs.Common.{◌∙◌, arith}
+use Rattle.std.proofs.Common.{arith}
 use Rattle.inference.specs.Tables.{graph_of}
-use Rattle.inference.proofs.Building.{build_longer, applied_all, applied_more, no_room, part_no_room}
+use Rattle.inference.proofs.Building.{build_longer, no_room, part_no_room}
 use Rattle.inference.proofs.table.Table.build.Goals as goal
 
 pub returns-in_err-cell : goal.returns-in_err-cell
@@ -10,13 +10,3 @@ returns-in_err-cell c =
 pub returns-in_err-cell-2 : goal.returns-in_err-cell-2
 returns-in_err-cell-2 c =
     no_room _ _ _ c.from_residual-in_err-cell-2.ensures.0 (part_no_room _ _ _ _ _ _ _ c.loop-part.part-index (omega arith) c.in_ok-cell.ensures.1 c.loop-part.invariant c.in_err-cell-2.ensures)
-
-pub loop-part-preserved : goal.loop-part-preserved
-loop-part-preserved c =
-    let p = c.in_ok-cell-2.ensures in
-    applied_more _ _ _ _ 0 _ c.loop-part.part-index _ (omega arith) p.1 p.0 ∙ c.loop-part.invariant
-
-pub returns : goal.returns
-returns c =
-    let p = c.in_ok-cell.ensures in
-    applied_all _ _ _ _ _ _ _ c.loop-part.part-index (omega arith) p.1 p.0 c.loop-part.invariant

@@ -1,7 +1,7 @@
-use Rattle.std.proofs.Common.{length, sym, refl, ap, ◌∙◌, arith}
+use Rattle.std.proofs.Common.{length, sym, refl, ap, ◌∙◌}
 use Rattle.std.proofs.lemmas.Bool.{both_ways}
 use Rattle.syntax.specs.Names.{is_name, letters}
-use Rattle.syntax.proofs.Letters.{named, padded_copy, padded_back, padded_name}
+use Rattle.syntax.proofs.Letters.{padded_copy, padded_name}
 use Rattle.syntax.proofs.name.NameTryFromRefSliceU8.try_from.Goals as goal
 use Rattle.syntax.proofs.name.NameTryFromRefSliceU8.try_from.Goals.{else-is_valid-via-then-is_valid+else-len-text, else-is_valid-via-else-is_valid}
 
