@@ -10,6 +10,9 @@ use syntax::fault::Fault;
 // Counts go no further than this.
 pub const MAX_COUNT: u32 = 16_383;
 
+// The longest form in bytes. A variable takes at least one, so there are no more of them.
+pub const MAX_FORM: usize = 240;
+
 // How many nodes of a subtree are clashes, overlong, and holes.
 #[derive(Clone, Copy, Debug, Default, PartialEq, Eq)]
 pub struct Tally {

@@ -4,13 +4,11 @@ ghost use Rattle.typing.specs.Parsing.{meet_variable};
 ghost use Rattle.forms.specs.Skips.{Met, Named, Took, letters_of, sort_of};
 
 use crate::number::read_number;
+use crate::outline::MAX_FORM;
 use arrayvec::ArrayVec;
 use std::marker::Model;
 use syntax::fault::Fault;
 use syntax::name::Name;
-
-// The longest form in bytes. A variable takes at least one, so there are no more of them.
-pub(crate) const MAX_FORM: usize = 240;
 
 // A term stands for a type, or for a place of a record.
 #[derive(Clone, Copy, Debug, Default, PartialEq, Eq)]

@@ -3,8 +3,8 @@ ghost use Rattle.std.specs.Prelude.{◌≡◌, ◌≤◌, length};
 ghost use Rattle.typing.specs.Parsing.{read_form, read_status};
 ghost use Rattle.forms.specs.Outlines.{bare, shaped, whole};
 
-use crate::outline::{FormOutline, Untyped};
-use crate::reader::{MAX_FORM, Reader};
+use crate::outline::{FormOutline, MAX_FORM, Untyped};
+use crate::reader::Reader;
 use syntax::fault::Fault;
 
 // What the status byte says of the bytes behind the counts, which end where the string does.

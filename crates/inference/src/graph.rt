@@ -1,5 +1,5 @@
-// A graph of cells that can be solved: no more cells than a table has, of which links lead to smaller
-// numbers, and parts are cells of the graph.
+// A graph of cells that can be solved: there are no more cells than a table has, a link leads to a cell of
+// a smaller number, and the parts of a cell are cells of the graph.
 ghost use Rattle.std.specs.Prelude.{◌≡◌, ◌<◌, ◌≤◌, length};
 ghost use Rattle.typing.specs.Cells.{find};
 ghost use Rattle.typing.specs.Solutions.{Tidy};

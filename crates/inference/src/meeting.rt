@@ -1,5 +1,5 @@
 // What two cells become when they are made one.
-ghost use Rattle.std.specs.Prelude.{◌≡◌, ◌<◌, ◌∷◌, length};
+ghost use Rattle.std.specs.Prelude.{◌≡◌, ◌<◌, ◌∷◌, length, OnErr};
 ghost use Rattle.typing.specs.Cells as cells;
 ghost use Rattle.typing.specs.Cells.{Pairs, step};
 ghost use Rattle.inference.specs.Meetings.{met_of, stepped};
@@ -39,11 +39,12 @@ fn meet(low: Cell, high: Cell) -> Result<(Cell, Option<Parts>), Clash>
 
 impl<'a> Graph<'a> {
     // Makes two cells equal: the first of their roots becomes what both are together, the second a link
-    // to it. The answer is what has to be made equal too.
+    // to it. The answer is what has to be made equal too. A clash leaves the graph as it was.
     pub(crate) fn equate(&mut self, a: usize, b: usize) -> Result<Option<Parts>, Clash>
         requires a_within { a < length self.old.cells.now }
         requires b_within { b < length self.old.cells.now }
-        ensures { (ps : Pairs) → step self.old.cells.now ((a, b) ∷ ps) ≡ stepped result self.new.cells.now ps }
+        ensures step { (ps : Pairs) → step self.old.cells.now ((a, b) ∷ ps) ≡ stepped result self.new.cells.now ps }
+        ensures kept { OnErr result (self.new.cells.now ≡ self.old.cells.now) }
     {
         let x = self.root(a);
         let y = self.root(b);

@@ -3,17 +3,15 @@
 ghost use Rattle.std.specs.Prelude.{◌≤◌, length};
 
 use arrayvec::ArrayVec;
+use forms::outline::MAX_FORM;
 
-// The longest form.
-pub const LONGEST: usize = 240;
-
-pub type FormText = ArrayVec<u8, LONGEST>;
+pub type FormText = ArrayVec<u8, MAX_FORM>;
 
 // A form shows no more cells than it has bytes.
 #[derive(Drop)]
 pub struct Script {
     pub text: FormText,
-    pub seen: ArrayVec<usize, LONGEST>,
+    pub seen: ArrayVec<usize, MAX_FORM>,
     ghost short: { length text.items ≤ 240 },
     ghost fewer: { length seen.items ≤ length text.items },
 }

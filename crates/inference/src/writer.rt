@@ -15,6 +15,7 @@ use crate::script::{FormText, Script};
 use arrayvec::{ArrayVec, CapacityError};
 use layout::group::group_bytes;
 use typing::cell::Cell;
+use typing::head::FIRST_VARIABLE;
 
 // There is no room for the rest of a form.
 #[derive(Clone, Copy, Debug, PartialEq, Eq)]
@@ -67,7 +68,7 @@ impl Script {
         ensures { Writes (var cell) self.old self.new result }
     {
         let place = self.place(cell);
-        self.push_group(5 + place as u32)?;
+        self.push_group(FIRST_VARIABLE + place as u32)?;
         if place == self.seen.len() {
             self.seen.push(cell);
         }

@@ -10,7 +10,7 @@ use crate::argument_text::push_argument;
 use crate::refusal::refusal_text;
 use crate::text::Text;
 use arrayvec::ArrayVec;
-use layout::scan::scan;
+use layout::scan::{MAX_DEPTH, scan};
 use layout::symbol_bytes::read_symbol;
 use syntax::argument::{Argument, Symbol};
 use syntax::fault::Fault;
@@ -23,7 +23,7 @@ pub const MAX_NODES: usize = 1024;
 pub const MAX_ANSWER: usize = 57_344;
 
 // The longest path as text: a dot, and a digit for each level below the root.
-const MAX_PATH: usize = 41;
+const MAX_PATH: usize = MAX_DEPTH + 1;
 
 type Path = ArrayVec<u8, MAX_PATH>;
 
@@ -81,7 +81,7 @@ fn write_line(path: &Path, symbol: Symbol, out: &mut [u8], at: usize) -> Option<
 }
 
 // Adds the lines of the next `count` trees of a file, the children from `next` on of the node at a
-// path. The path is lent while the lines below are written, and comes back as it was.
+// path. The path is lent while the lines below are written, and with an answer comes back as it was.
 fn write_trees<'a>(
     bytes: &'a [u8],
     path: &mut Path,

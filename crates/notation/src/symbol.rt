@@ -14,9 +14,7 @@ use syntax::fault::Fault;
 pub fn write_symbol(symbol: Symbol, out: &mut [u8]) -> Result<usize, Fault>
     ensures { WroteIf (fits symbol) (symbol_bytes symbol) out.old out.new result }
 {
-    if !symbol.argument.is_of(symbol.kind.sort()) {
-        return Err(Fault::Misfit);
-    }
+    symbol.fit()?;
     let mut text = Text::new();
     push_group(&mut text, u32::from(symbol.kind));
     push_argument_bytes(&mut text, symbol.argument);

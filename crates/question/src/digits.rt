@@ -6,7 +6,7 @@ ghost use Rattle.question.specs.Fields.{is_string};
 
 use arrayvec::ArrayVec;
 
-// The most bytes that the strings of a line stand for.
+// The most bytes that a string of a line stands for.
 pub const ROOM: usize = 2048;
 
 fn is_digit(c: u8) -> bool

@@ -1,19 +1,18 @@
-// A set of names in rising order, up to the 63 that a string lists, and the strings of such sets.
+// A set of names, up to the 63 that a string lists, and the strings of such sets. Names that join in
+// rising order stand in rising order.
 ghost use Rattle.std.specs.Prelude.{◌≡◌, [], ◌++◌, length, drop, if◌then◌else◌, Ok, Some};
 ghost use Rattle.std.specs.Option.{option_to_list};
 ghost use Rattle.reading.specs.NameSets.{collected_of, kept, names_of};
 ghost use Rattle.reading.specs.NameStrings.{allowed, fours, key as rank, listing, rising, spelled};
 ghost use Rattle.reading.specs.NamesRule.{add as added, insert as inserted, is_bound, join as joining, merge as merging};
 
+use crate::names::NAMES_LIMIT;
 use arrayvec::{ArrayVec, CapacityError};
 use std::mem;
 use syntax::name::Name;
 
 // The most names that are listed.
 const MOST_NAMES: usize = 63;
-
-// The longest string: a first byte, a count, and four bytes for each name.
-const LONGEST: usize = 254;
 
 // The first byte of a string that lists names, and the only byte of one that stands for too many.
 const LISTED: u8 = 3;
@@ -118,7 +117,7 @@ impl NameSet {
 }
 
 // The string of the names that were collected.
-pub(crate) fn spell(collected: &Result<NameSet, TooMany>) -> ArrayVec<u8, LONGEST>
+pub(crate) fn spell(collected: &Result<NameSet, TooMany>) -> ArrayVec<u8, NAMES_LIMIT>
     ensures { result.items ≡ spelled (collected_of collected.now) }
 {
     let mut text = ArrayVec::new();
@@ -130,7 +129,7 @@ pub(crate) fn spell(collected: &Result<NameSet, TooMany>) -> ArrayVec<u8, LONGES
 }
 
 // Writes the string that lists some names in an empty text.
-fn list(names: &ArrayVec<Name, MOST_NAMES>, text: &mut ArrayVec<u8, LONGEST>)
+fn list(names: &ArrayVec<Name, MOST_NAMES>, text: &mut ArrayVec<u8, NAMES_LIMIT>)
     requires { text.old.items ≡ [] }
     ensures { text.new.items ≡ listing names.now.items }
 {

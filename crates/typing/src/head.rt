@@ -3,28 +3,23 @@ ghost use Rattle.std.specs.Prelude.{◌≡◌};
 ghost use Rattle.typing.specs.Heads.{meaning_of, token_of};
 
 // The token of the first variable. Those below are heads.
-const FIRST_VARIABLE: u32 = 5;
+pub const FIRST_VARIABLE: u32 = 5;
 
+// The number beside each is its token.
 #[derive(Clone, Copy, Debug, PartialEq, Eq)]
 pub enum Head {
-    Num,
-    Fun,
-    Rec,
-    Absent,
-    Present,
+    Num = 0,
+    Fun = 1,
+    Rec = 2,
+    Absent = 3,
+    Present = 4,
 }
 
 impl From<Head> for u32 {
     ghost from_gives = { λ head token. token ≡ token_of head };
 
     fn from(head: Head) -> u32 {
-        match head {
-            Head::Num => 0,
-            Head::Fun => 1,
-            Head::Rec => 2,
-            Head::Absent => 3,
-            Head::Present => 4,
-        }
+        head as u32
     }
 }
 
