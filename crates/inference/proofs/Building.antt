@@ -1,10 +1,10 @@
 -- Terms built over cells that are there already have the values of those. Assumes nothing.
-use Rattle.std.proofs.Common.{◌≡◌, ℕ, zero, suc, ◌+◌, ◌<◌, ◌≤◌, true, List, [], ◌∷◌, ◌++◌, map, length, get_or, drop, replicate, is_err, Result, sym, refl, ap, ◌∙◌, ap₂, arith}
-use Rattle.std.proofs.lemmas.List.{drop_more, drop_all, length-drop, length_push}
+use Rattle.std.proofs.Common.{◌≡◌, ℕ, ◌+◌, ◌<◌, ◌≤◌, true, List, [], ◌∷◌, ◌++◌, map, length, drop, is_err, Result, refl, ap, ◌∙◌, arith}
+use Rattle.std.proofs.lemmas.List.{length-drop, length_push}
 use Rattle.std.proofs.lemmas.Result.{MatchResult-from_err}
 use Rattle.syntax.specs.declared.fault.Fault.{Fault}
 use Rattle.typing.specs.Cells.{Graph}
-use Rattle.typing.specs.declared.cell.Cell.TheVariants.{Free as free, Atom as atom, Apply as apply}
+use Rattle.typing.specs.declared.cell.Cell.TheVariants.{Atom as atom, Apply as apply}
 use Rattle.typing.specs.declared.head.Head.{Head}
 use Rattle.typing.specs.Layings.{Laid}
 use Rattle.typing.specs.Solutions.{Solves, Tidy}
@@ -22,11 +22,6 @@ apply_longer g c (x ∷ xs) = apply_longer (g ++ apply c x ∷ []) (length g) xs
 
 pub build_longer : (h : Head) (xs : List ℕ) (g : Graph) → length (build h xs g).0 ≡ length g + 1 + length xs
 build_longer h xs g = apply_longer (g ++ atom h ∷ []) (length g) xs ∙ omega (arith, length_push g (atom h))
-
--- one part more
-pub applied_more : (g g' : Graph) (c c' x : ℕ) (xs : List ℕ) (i d : ℕ) → i < length xs → g' ≡ g ++ apply c (get_or xs i d) ∷ [] → c' ≡ length g → apply_all g' c' (drop (i + 1) xs) ≡ apply_all g c (drop i xs)
-applied_more g g' c c' x xs i d lt pushed at =
-    ap₂ (λ h e. apply_all h e (drop (i + 1) xs)) pushed at ∙ sym (ap (apply_all g c) (drop_more xs i d lt))
 
 -- what a built term is worth
 pub record Worth (g : Graph) (b : Graph × ℕ) (value : (ℕ → Term) → Term) : Type 0 where
@@ -52,21 +47,7 @@ build_worth h xs g tidy within =
 pub no_room : (b : Graph × ℕ) (g' : Graph) (r : Result ℕ Fault) → is_err r ≡ true → most_cells < length b.0 → Built b g' r
 no_room b g' r is full = MatchResult-from_err r _ _ is (λ fault. full)
 
--- all parts are applied
-pub applied_all : (h : Head) (xs : List ℕ) (g g₀ g' : Graph) (c₀ c' i : ℕ) → length xs ≤ i → g₀ ≡ g ++ atom h ∷ [] → c₀ ≡ length g → apply_all g' c' (drop i xs) ≡ apply_all g₀ c₀ xs → (g' ≡ (build h xs g).0) × (c' ≡ (build h xs g).1)
-applied_all h xs g g₀ g' c₀ c' i past pushed at inv =
-    let e : (g', c') ≡ build h xs g = sym (ap (apply_all g' c') (drop_all i xs past)) ∙ inv ∙ ap₂ (λ k d. apply_all k d xs) pushed at in
-    (ap (λ p. p.0) e, ap (λ p. p.1) e)
-
 -- there is no room for the next part
 pub part_no_room : (h : Head) (xs : List ℕ) (g g₀ g' : Graph) (c₀ c' i : ℕ) → i < length xs → g₀ ≡ g ++ atom h ∷ [] → apply_all g' c' (drop i xs) ≡ apply_all g₀ c₀ xs → most_cells ≤ length g' → most_cells < length (build h xs g).0
 part_no_room h xs g g₀ g' c₀ c' i lt pushed inv full =
     omega (arith, full, apply_longer g' c' (drop i xs), apply_longer g₀ c₀ xs, ap (λ p. length p.0) inv, build_longer h xs g, ap length pushed, length_push g (atom h), length-drop i xs)
-
--- free cells, one more
-pub one_free : (n : ℕ) → replicate n free ++ free ∷ [] ≡ replicate (n + 1) free
-one_free n = front n ∙ (let e : suc n ≡ n + 1 = omega arith in ap (λ k. replicate k free) e)
-  where
-    front : (n : ℕ) → replicate n free ++ free ∷ [] ≡ replicate (suc n) free
-    front zero = refl
-    front (suc n) = ap (λ g. free ∷ g) (front n)

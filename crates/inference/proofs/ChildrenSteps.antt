@@ -1,5 +1,5 @@
 -- Adding the children of a node to a draft, the last one first. Assumes nothing.
-use Rattle.std.proofs.Common.{◌≡◌, ℕ, ◌+◌, ◌-◌, ◌≤◌, List, [], ◌∷◌, ◌++◌, length, set, Some, Ok, Err, Result, sym, refl, ap, ◌∙◌, subst, arith}
+use Rattle.std.proofs.Common.{◌≡◌, ℕ, ◌+◌, ◌-◌, ◌≤◌, List, [], ◌∷◌, ◌++◌, length, set, Some, Ok, Result, sym, ap, ◌∙◌, subst, arith}
 use borrow.Rule.Slice.PartMut.{put_mid}
 use Rattle.std.proofs.lemmas.List.{append-nil, drop_all}
 use Rattle.syntax.specs.declared.fault.Fault.{Fault}
@@ -10,10 +10,9 @@ use Rattle.typing.specs.Forms.{Form}
 use Rattle.typing.specs.Parsing.{read_typing}
 use Rattle.typing.specs.Strings.{Typing}
 use Rattle.typing.specs.Typings.{form_of}
-use Rattle.inference.specs.Drafts.{State, add_entries, add_form, unknowns, Roomy}
+use Rattle.inference.specs.Drafts.{State, add_entries, add_form, Roomy}
 use Rattle.inference.specs.Joins.{AddsChild, AddsAll, AllRead, Begins, all_at, forms_of, width_in}
 use Rattle.inference.specs.Layouts.{shift}
-use Rattle.inference.specs.Posed.{spare}
 use Rattle.inference.specs.declared.base.Base.{Base}
 use Rattle.inference.proofs.ChildFacts.{width_in_lem}
 use Rattle.inference.proofs.DraftSteps.{Grows, grows_entries, grows_lay, grows_more, roomy_before}
@@ -23,33 +22,10 @@ grows_form base F S =
     let E = add_entries base F.entries S in
     grows_more S E (add_form base F S).0 (grows_entries base F.entries S) (grows_lay (shift base F.result) E)
 
--- no child is left
-pub no_child : (b : Base) (ss : List (List ℕ)) (S' : State) (types : List ℕ) → ss ≡ [] → S' ≡ unknowns (b.cell + spare) → AddsAll b.cell ss S' types (Ok b)
-no_child b ss S' types none is = subst (λ xs. AddsAll b.cell xs S' types (Ok b)) (sym none) end
-  where
-    end : AddsAll b.cell [] S' types (Ok b)
-    end [] read roomy = (refl, is, tt)
-    end (T ∷ Ts) read roomy = absurd read
-
-pub no_free : (base : ℕ) (ss : List (List ℕ)) (S' : State) (types : List ℕ) (r : Result Base Fault) → ss ≡ [] → (Roomy (unknowns (base + spare)) → ⊥) → AddsAll base ss S' types r
-no_free base ss S' types r none full = subst (λ xs. AddsAll base xs S' types r) (sym none) end
-  where
-    end : AddsAll base [] S' types r
-    end [] read roomy = absurd (full roomy)
-    end (T ∷ Ts) read roomy = absurd read
-
 module _ (base : ℕ) (whole : List (List ℕ)) (text : List ℕ) (ss : List (List ℕ)) (split : whole ≡ text ∷ ss) where
   -- what holds of a string before others holds of the whole
   of_whole : (S' : State) (types : List ℕ) (r : Result Base Fault) → AddsAll base (text ∷ ss) S' types r → AddsAll base whole S' types r
   of_whole S' types r adds = subst (λ xs. AddsAll base xs S' types r) (sym split) adds
-
-  first_no_outline : (S' : State) (types : List ℕ) (r : Result Base Fault) (fault : Fault) → outlined (read_typing 4 text) ≡ Err fault → AddsAll base (text ∷ ss) S' types r
-  first_no_outline S' types r fault is [] read roomy = absurd read
-  first_no_outline S' types r fault is (T ∷ Ts) read roomy =
-      absurd (let e : Ok (outline_of T) ≡ Err fault = sym (ap outlined read.0) ∙ is in let z : ◌≡◌ {A = ℕ} 0 1 = cc in omega (arith, z))
-
-  pub no_outline : (S' : State) (types : List ℕ) (r : Result Base Fault) (fault : Fault) → outlined (read_typing 4 text) ≡ Err fault → AddsAll base whole S' types r
-  no_outline S' types r fault is = of_whole S' types r (first_no_outline S' types r fault is)
 
   module _ (x : Outline) (is : outlined (read_typing 4 text) ≡ Ok x) (next : ℕ) (next-is : next ≡ base + width_in x) where
     next_of : (T : Typing) → read_typing 4 text ≡ Some T → next ≡ base + width (form_of T.status)

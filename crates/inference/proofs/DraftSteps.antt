@@ -1,29 +1,20 @@
 -- The steps by which a draft grows, and that they never take cells, entries or pairs away. Assumes nothing.
-use Rattle.std.proofs.Common.{◌≡◌, ℕ, suc, ◌+◌, ◌<◌, ◌≤◌, Bool, true, false, List, [], ◌∷◌, ◌++◌, length, replicate, Ok, Err, Result, refl, ap, ◌∙◌, arith, length-append, MatchResult}
-use Rattle.std.proofs.lemmas.List.{length_push, length-replicate}
-use Rattle.syntax.specs.declared.fault.Fault.{Fault}
+use Rattle.std.proofs.Common.{ℕ, suc, ◌≤◌, Bool, true, false, List, [], ◌∷◌, length, Ok, Err, ap, arith, length-append}
 use Rattle.typing.specs.Cells.{Graph}
 use Rattle.typing.specs.Forms.{Name, same}
 use Rattle.typing.specs.Solve.{lay}
 use Rattle.typing.specs.Strings.{before}
 use Rattle.typing.specs.Terms.{Term}
-use Rattle.typing.specs.declared.cell.Cell.TheVariants.{Free as free, Atom as atom}
 use Rattle.typing.specs.declared.head.Head.{Head}
 use Rattle.typing.specs.Constraints.{insert}
-use Rattle.inference.specs.Drafts.{State, with_graph, unknowns, build_at, equate_at, put_slot, add_entries, Roomy, Does, DoesIf, LaysAt, SlotsWithin}
+use Rattle.inference.specs.Drafts.{State, with_graph, build_at, equate_at, put_slot, add_entries, Roomy, LaysAt, SlotsWithin}
 use Rattle.inference.specs.Layouts.{Answer, LaysTerm, shift}
 use Rattle.inference.specs.Slots.{Slot, slots_of}
-use Rattle.inference.specs.Tables.{Pushed}
 use Rattle.inference.specs.Writings.{EntriesWithin}
 use Rattle.inference.specs.declared.entry.Entry.{Entry}
 use Rattle.inference.proofs.Building.{build_longer}
 use Rattle.inference.proofs.Drafting.{placed}
 use Rattle.inference.proofs.LayingOut.{lay_longer}
-
-pub free_does : (S : State) (g' : Graph) (n : ℕ) (r : Result (Unit {0}) Fault) → S ≡ unknowns 0 → MatchResult r (λ done. g' ≡ S.graph ++ replicate n free) (λ fault. 1440 < length S.graph + n) → Does (unknowns n, tt) (with_graph S g') r
-free_does S g' n (Ok done) none pushed =
-    (ap (with_graph S) pushed ∙ ap (λ T. with_graph T (T.graph ++ replicate n free)) none, refl)
-free_does S g' n (Err fault) none full = λ roomy. omega (arith, full, roomy.cells, length-replicate n free, ap (λ T. length T.graph) none)
 
 pub lays_at : (base : ℕ) (bytes : List ℕ) (S : State) (g' : Graph) (r : Answer) → LaysTerm base bytes S.graph g' r → LaysAt base bytes S (with_graph S g') r
 lays_at base bytes S g' (Ok p) lays s t rest legible is roomy =
@@ -75,15 +66,6 @@ grows_build h xs S = record { cells = omega (arith, build_longer h xs S.graph); 
 
 pub grows_equate : (a b : ℕ) (S : State) → Grows S (equate_at a b S)
 grows_equate a b S = record { cells = omega arith; slots = omega arith; pairs = omega arith }
-
--- a head without parts
-pub atom_does : (h : Head) (S : State) (g' : Graph) (r : Result ℕ Fault) → Pushed (atom h) S.graph g' r → Does (build_at h [] S) (with_graph S g') r
-atom_does h S g' (Ok n) pushed = (ap (with_graph S) pushed.1, pushed.0)
-atom_does h S g' (Err fault) full = λ roomy. omega (arith, full, roomy.cells, length_push S.graph (atom h))
-
--- a step for which there is no room
-pub no_step : {A : Type 0} (T : State) (U : State × A) (S' : State) (r : Result A Fault) → Grows T U.0 → (Roomy T → ⊥) → DoesIf U S' r
-no_step T U S' r grows full roomy = absurd (full (roomy_before T U.0 grows roomy))
 
 -- cells inside, of slots and of entries
 pub entries_within : (n : ℕ) (es : List Entry) → SlotsWithin n (slots_of es) → EntriesWithin n es

@@ -1,6 +1,6 @@
 -- Entries that are written one after the other, and the form that they begin. Assumes nothing.
-use Rattle.std.proofs.Common.{◌≡◌, ℕ, suc, ◌+◌, ◌<◌, ◌≤◌, List, [], ◌∷◌, ◌++◌, length, get_or, drop, sym, refl, ap, ◌∙◌, subst, ap₂, add-one, arith, length-append}
-use Rattle.std.proofs.lemmas.List.{append_assoc, append-nil, drop_more, drop_all}
+use Rattle.std.proofs.Common.{◌≡◌, ℕ, suc, ◌+◌, ◌<◌, List, [], ◌∷◌, ◌++◌, length, get_or, drop, sym, refl, ap, ◌∙◌, subst, ap₂, add-one, arith, length-append}
+use Rattle.std.proofs.lemmas.List.{append_assoc, drop_more}
 use Rattle.layout.specs.Groups.{group}
 use Rattle.typing.specs.Cells.{Graph, readback}
 use Rattle.typing.specs.Forms.{Name}
@@ -44,9 +44,6 @@ module _ (g : Graph) (es : List Entry) (i : ℕ) (d : Entry) (first s : Script) 
   bytes_here : text ++ (entry.name.0 ++ (spelled seen term ++ spelled_all (seen_after seen term) rest)) ≡ start ++ spelled_all seen_first (entries_at g (slots_of es))
   bytes_here = sym (ap (λ z. text ++ z) (ap (spelled_all seen) here ∙ spelled_entry entry.name.0 term rest seen)) ∙ go.bytes
 
-  pub entry_within : entry.cell < length g
-  entry_within = (subst (EntriesWithin (length g)) (drop_more es i d lt) go.within).0
-
   long : length start + length (spelled_all seen_first (entries_at g (slots_of es))) ≡ length text + (length entry.name.0 + (length (spelled seen term) + length (spelled_all (seen_after seen term) rest)))
   long =
       let S = spelled seen term in
@@ -72,11 +69,6 @@ module _ (g : Graph) (es : List Entry) (i : ℕ) (d : Entry) (first s : Script) 
           after = ap (λ z. seen_after_all z rest) seen_then ∙ sym (ap (seen_after_all seen) here ∙ seen_entry entry.name.0 term rest seen) ∙ go.after;
           within = (subst (EntriesWithin (length g)) (drop_more es i d lt) go.within).1;
         }
-
-pub entries_all : (g : Graph) (es : List Entry) (i : ℕ) (first s : Script) → EntriesGo g es i first s → length es ≤ i → (s.text.items ≡ first.text.items ++ spelled_all first.seen.items (entries_at g (slots_of es))) × (s.seen.items ≡ seen_after_all first.seen.items (entries_at g (slots_of es)))
-entries_all g es i first s go le =
-    let none : entries_at g (slots_of (drop i es)) ≡ [] = ap (λ xs. entries_at g (slots_of xs)) (drop_all i es le) in
-    (sym (ap (λ z. s.text.items ++ spelled_all s.seen.items z) none ∙ append-nil s.text.items) ∙ go.bytes, sym (ap (seen_after_all s.seen.items) none) ∙ go.after)
 
 length_entries : (g : Graph) (es : List Entry) → length (entries_at g (slots_of es)) ≡ length es
 length_entries g [] = refl

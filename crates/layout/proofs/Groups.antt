@@ -1,5 +1,5 @@
 -- Group numbers: reading one is the inverse of spelling one. Assumes nothing.
-use Rattle.std.proofs.Common.{◌≡◌, ℕ, zero, suc, ◌+◌, ◌-◌, ◌*◌, ◌/◌, ◌%◌, ◌<◌, ◌≤◌, ltb, ◌⊎◌, List, [], ◌∷◌, ◌++◌, length, sym, refl, ap, ◌∙◌, subst, inl, inr, arith}
+use Rattle.std.proofs.Common.{◌≡◌, ℕ, zero, suc, ◌+◌, ◌-◌, ◌*◌, ◌/◌, ◌%◌, ◌<◌, ◌≤◌, ltb, ◌⊎◌, List, [], ◌∷◌, ◌++◌, length, sym, refl, ap, ◌∙◌, inl, inr, arith}
 use Rattle.std.proofs.lemmas.Bool.{lt-ltb, le-ltb, cases_lt, cond_both}
 use Rattle.layout.specs.Groups.{bound, groups}
 
@@ -17,10 +17,6 @@ groups_more (suc more) n some large = groups_large more n large ∙ ap (λ k. (1
   where
     less : more ≡ suc more - 1
     less = omega arith
-
-pub bound_more : (more n : ℕ) → 0 < more → n < bound more → n / 128 < bound (more - 1)
-bound_more zero n some fits = absurd (omega arith)
-bound_more (suc more) n some fits = let less : more ≡ suc more - 1 = omega arith in subst (λ k. n / 128 < bound k) less (omega arith)
 
 pub bound_some : (more : ℕ) → 128 ≤ bound more
 bound_some zero = omega arith

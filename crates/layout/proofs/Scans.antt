@@ -44,9 +44,6 @@ first bytes k (grow s c g) end some b =
 pub no_first : (bytes : List ℕ) (k : ℕ) → 0 < k → NoSymbol bytes → NoTrees bytes k
 no_first bytes k some absent f end b = let h = first bytes k f end some b in absent h.s _ h.fit h.front
 
-pub begins_none : (bytes : List ℕ) → Begins bytes 0 none bytes
-begins_none bytes = record { well = tt; many = refl; spelled = refl }
-
 module _ (bytes rest : List ℕ) (s : Symbol) (fit : fits s ≡ true) (front : bytes ≡ symbol_bytes s ++ rest) (k : ℕ) (some : 0 < k) where
   -- the first node is the one that was read
   pub known : (f : Forest Symbol) (end : List ℕ) (b : Begins bytes k f end) → let h = first bytes k f end some b in (s ≡ h.s) × (rest ≡ forest_bytes h.c ++ (forest_bytes h.g ++ end))
@@ -80,14 +77,6 @@ pub record Owed (bytes : List ℕ) (k : ℕ) (rest : List ℕ) (owed seen : ℕ)
   pub completes : (g : Forest Symbol) (end : List ℕ) → Begins rest owed g end → (f : Forest Symbol) × Begins bytes k f end × (nodes f ≡ seen + nodes g)
   pub leaves : (f : Forest Symbol) (end : List ℕ) → Begins bytes k f end → (g : Forest Symbol) × Begins rest owed g end
   pub within : seen + length rest ≤ length bytes
-
-pub owed_none : (bytes : List ℕ) (k : ℕ) → Owed bytes k bytes k 0
-owed_none bytes k =
-    record {
-      completes = λ g end b. (g, b, omega arith);
-      leaves = λ f end b. (f, b);
-      within = omega arith;
-    }
 
 module _ (bytes : List ℕ) (k : ℕ) (rest : List ℕ) (owed seen : ℕ) (o : Owed bytes k rest owed seen) where
   -- each tree takes at least a byte

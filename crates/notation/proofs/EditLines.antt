@@ -31,9 +31,6 @@ module _ (start text : List ℕ) (at : ℕ) (before : List ℕ) (w : Written sta
   left : take (length before - at) (drop at before) ≡ drop (length text) start
   left = take_rest before at ∙ ap₂ drop w.at_is w.holds ∙ drop_at text (drop (length text) start) (length text) refl
 
-  pub not_short : (piece : List ℕ) → length text + length piece ≤ length start → length (take (length before - at) (drop at before)) < length piece → ⊥
-  not_short piece room less = omega (arith, ap length left, length-drop (length text) start)
-
   adds : (piece part : List ℕ) (n : ℕ) → n ≡ length piece → part ≡ piece ++ drop (length piece) (take (length before - at) (drop at before)) → Written start (text ++ piece) (at + n) (put_mid at (length before - at) before part)
   adds piece part n long is =
       let gone : drop (length before - at) (drop at before) ≡ [] = drop_all _ (drop at before) (omega (arith, length-drop at before)) in

@@ -1,5 +1,5 @@
 -- The fields of a line, one after another. Assumes nothing.
-use Rattle.std.proofs.Common.{◌≡◌, ℕ, zero, suc, ◌+◌, ◌-◌, ◌<◌, ◌≤◌, true, false, ◌&&◌, List, [], ◌∷◌, length, get_or, take, drop, sym, refl, ap, ◌∙◌, suc-le-suc, add-one, arith, Bool, position, None, Some, ◌==◌, ◌⊎◌, inl, inr}
+use Rattle.std.proofs.Common.{◌≡◌, ℕ, zero, suc, ◌+◌, ◌-◌, ◌<◌, ◌≤◌, true, List, [], ◌∷◌, length, get_or, take, drop, sym, refl, ap, ◌∙◌, suc-le-suc, add-one, arith, Bool, position, None, Some, ◌==◌, ◌⊎◌, inl, inr}
 use Rattle.std.proofs.lemmas.List.{take_rest}
 use Rattle.std.proofs.lemmas.Bool.{and_parts, cases_lt, eq-eqb, eqb-true, false≢true, lt-ltb, ne_eqb}
 use Rattle.std.proofs.lemmas.List.Quantifiers.{position-Some}
@@ -45,12 +45,6 @@ fields_one text none = by_place (cases_lt (position_or_len is_space text) (lengt
     by_place : (at < length text) ⊎ (length text ≤ at) → fields text ≡ text ∷ []
     by_place (inl some) = absurd (let z : ◌≡◌ {A = ℕ} 0 1 = let e : Some at ≡ None = sym (rw (lt-ltb at (length text) some)) ∙ none in cc in omega arith)
     by_place (inr past) = fields_whole text (λ k h e. false≢true (sym (fails_before_first is_space text k 0 (omega arith)) ∙ eq-eqb (get_or text k 0) 32 e))
-
-pub strings_go : (field : List ℕ) (rest : List (List ℕ)) (fs : List (List ℕ)) → fs ≡ field ∷ rest → is_string field ≡ true → are_strings rest ≡ are_strings fs
-strings_go field rest fs is good = sym (ap are_strings is ∙ ap (λ b. b && are_strings rest) good)
-
-pub strings_stop : (field : List ℕ) (rest : List (List ℕ)) (fs : List (List ℕ)) → fs ≡ field ∷ rest → is_string field ≡ false → false ≡ are_strings fs
-strings_stop field rest fs is bad = sym (ap are_strings is ∙ ap (λ b. b && are_strings rest) bad)
 
 pub strings_first : (field : List ℕ) (rest fs : List (List ℕ)) → fs ≡ field ∷ rest → are_strings fs ≡ true → (is_string field ≡ true) × (are_strings rest ≡ true)
 strings_first field rest fs is all = and_parts (is_string field) (are_strings rest) (sym (ap are_strings is) ∙ all)

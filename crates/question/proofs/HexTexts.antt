@@ -1,22 +1,11 @@
 -- Bytes to digits, and digits to bytes. Assumes nothing.
-use Rattle.std.proofs.Common.{◌≡◌, ℕ, ◌+◌, ◌*◌, ◌<◌, ◌≤◌, Bool, true, false, not, ◌&&◌, ◌||◌, ltb, ◌⊎◌, List, [], ◌∷◌, ◌++◌, length, get_or, take, drop, sym, refl, ap, ◌∙◌, subst, inl, inr, append_assoc, arith}
-use Rattle.std.proofs.lemmas.List.{append-nil}
-use Rattle.std.proofs.lemmas.Bool.{and_parts, or_cases, or_right, false≢true, le-ltb}
-use Rattle.question.specs.Fields.{is_dash, is_empty, is_string}
+use Rattle.std.proofs.Common.{◌≡◌, ℕ, ◌+◌, ◌*◌, ◌≤◌, Bool, true, ◌&&◌, ◌||◌, ltb, List, [], ◌∷◌, ◌++◌, length, get_or, take, drop, sym, refl, ap, ◌∙◌, subst, append_assoc, arith}
+use Rattle.std.proofs.lemmas.Bool.{and_parts, or_right, le-ltb}
 use Rattle.question.specs.Digits.{is_digit, is_hex, unhex, worth}
 
 -- pairs of digits, or too little for a pair
 abbrev pub is_pairs : List ℕ → Bool
 is_pairs text = ltb (length text) 2 || is_hex text
-
-pub string_pairs : (text : List ℕ) → is_string text ≡ true → is_pairs text ≡ true
-string_pairs [] h = refl
-string_pairs (a ∷ []) h = refl
-string_pairs (a ∷ b ∷ text) h = by_form (or_cases (is_dash (a ∷ b ∷ text)) _ h)
-  where
-    by_form : (is_dash (a ∷ b ∷ text) ≡ true) ⊎ ((not (is_empty (a ∷ b ∷ text)) && is_hex (a ∷ b ∷ text)) ≡ true) → is_pairs (a ∷ b ∷ text) ≡ true
-    by_form (inl e) = absurd (false≢true (and_parts _ false e).1)
-    by_form (inr e) = or_right (ltb (length (a ∷ b ∷ text)) 2) _ e
 
 -- a pair and what is behind it
 pub record Pair (text pair rest : List ℕ) : Type 0 where
@@ -38,15 +27,7 @@ pub pair_from : (text pair rest : List ℕ) → pair ≡ take 2 text → rest �
 pair_from text pair rest front back long h =
     subst (λ z. Pair text z rest) (sym front) (subst (λ z. Pair text (take 2 text) z) (sym back) (pair_of text (omega arith) h))
 
-pub unhex_short : (text : List ℕ) → length text < 2 → unhex text ≡ []
-unhex_short [] short = refl
-unhex_short (a ∷ []) short = refl
-unhex_short (a ∷ b ∷ text) short = absurd (omega arith)
-
 -- a byte behind those that are there
 pub front_more : (front rest after whole : List ℕ) (v : ℕ) → unhex rest ≡ v ∷ unhex after → front ++ unhex rest ≡ whole → (front ++ v ∷ []) ++ unhex after ≡ whole
 front_more front rest after whole v value is =
     append_assoc front (v ∷ []) (unhex after) ∙ ap (λ z. front ++ z) (sym value) ∙ is
-
-pub front_ends : (front rest whole : List ℕ) → length rest < 2 → front ++ unhex rest ≡ whole → front ≡ whole
-front_ends front rest whole short is = sym (append-nil front) ∙ ap (λ z. front ++ z) (sym (unhex_short rest short)) ∙ is

@@ -1,8 +1,8 @@
 -- Why a question is refused, test by test. Assumes nothing.
-use Rattle.std.proofs.Common.{◌≡◌, ℕ, ◌<◌, ◌≤◌, true, false, cond, ◌&&◌, eqb, List, [], ◌∷◌, length, Some, None, refl, sym, ap, ◌∙◌, Bor}
+use Rattle.std.proofs.Common.{◌≡◌, ℕ, ◌<◌, ◌≤◌, true, false, cond, ◌&&◌, eqb, List, [], ◌∷◌, length, Some, None, refl, ap, ◌∙◌, Bor}
 use Rattle.std.specs.List.{list_all}
 use Rattle.std.proofs.lemmas.List.{length-map}
-use Rattle.std.proofs.lemmas.Bool.{lt-ltb, le-leb, eq-eqb, ne_eqb, and_from, and_left, and_right}
+use Rattle.std.proofs.lemmas.Bool.{lt-ltb, le-leb, eq-eqb, and_from, and_right}
 use Rattle.syntax.specs.Arguments.{fits}
 use Rattle.syntax.specs.Kinds.{arity}
 use Rattle.syntax.specs.declared.argument.Symbol.{Symbol}
@@ -18,10 +18,6 @@ all_allowed m (s ∷ ss) = ap (λ b. m.allows s.now && b) (all_allowed m ss)
 module _ (m : Meaning) (meter : ℕ) (s : Symbol) (slices : List (Bor (List ℕ))) (room : ℕ) (fit : fits s ≡ true) (some : meter < meter_end) (long : m.bound ≤ room) where
   by_parts : refusal m meter s (texts slices) room ≡ cond (suits m s (texts slices)) None (Some Unlawful)
   by_parts = rw (fit, lt-ltb _ _ some, le-leb _ _ long)
-
-  pub by_number : (length slices ≡ arity s.kind → ⊥) → refusal m meter s (texts slices) room ≡ Some Unlawful
-  by_number other =
-      by_parts ∙ ap (λ b. cond b None (Some Unlawful)) (and_left _ (allows_all m (texts slices)) (ne_eqb _ _ (λ e. other (sym (length-map slices (λ slice. slice.now)) ∙ e))))
 
   pub by_string : allows_all m (texts slices) ≡ false → refusal m meter s (texts slices) room ≡ Some Unlawful
   by_string other = by_parts ∙ ap (λ b. cond b None (Some Unlawful)) (and_right (eqb (length (texts slices)) (arity s.kind)) _ other)

@@ -1,9 +1,9 @@
 -- The letters and the padding of a name. Assumes nothing.
-use Rattle.std.proofs.Common.{◌≡◌, ℕ, ◌-◌, ◌<◌, ◌≤◌, true, false, ◌&&◌, eqb, ltb, List, [], ◌∷◌, ◌++◌, length, take, drop, replicate, sym, refl, ap, ◌∙◌, ap₂, suc-le-suc, zero-le, arith, cond}
-use Rattle.std.proofs.lemmas.List.{length-drop, take-append-drop, take_at, drop-replicate}
+use Rattle.std.proofs.Common.{◌≡◌, ℕ, ◌-◌, ◌<◌, ◌≤◌, true, ◌&&◌, eqb, ltb, List, [], ◌∷◌, ◌++◌, length, take, drop, replicate, sym, refl, ap, ◌∙◌, ap₂, suc-le-suc, zero-le, arith, cond}
+use Rattle.std.proofs.lemmas.List.{length-drop, take-append-drop, drop-replicate}
 use borrow.Rule.Slice.PartMut.{post_of}
 use native.Mathlib.Nat.{sub-zero}
-use Rattle.std.proofs.lemmas.Bool.{and_parts, eqb-true, ltb-true, eq-eqb, lt-ltb, le-ltb, and_right, cond_both}
+use Rattle.std.proofs.lemmas.Bool.{and_parts, eqb-true, ltb-true, cond_both}
 use Rattle.std.proofs.lemmas.List.Sums.{take_while-cons}
 use Rattle.std.specs.Char.{is_ascii_lowercase}
 use Rattle.syntax.specs.Names.{blank, letters, is_name}
@@ -47,21 +47,12 @@ named bs h =
       made = sym (take-append-drop n bs) ∙ ap₂ (λ x y. x ++ y) (sym (letters_front bs)) rest;
     }
 
-pub some_named : (bs : List ℕ) → length bs ≡ 4 → 0 < length (letters bs) → blank (drop (length (letters bs)) bs) ≡ is_name bs
-some_named bs four some = rw (eq-eqb _ _ four, lt-ltb _ _ some)
-
-pub none_named : (bs : List ℕ) → length (letters bs) ≤ 0 → false ≡ is_name bs
-none_named bs none = rw (le-ltb 0 (length (letters bs)) none) (sym (ap (λ x. x && blank (drop (length (letters bs)) bs)) (and_right (eqb (length bs) 4) false refl)))
-
 -- four bytes that are a text and then padding
 abbrev pub Padded : List ℕ → List ℕ → Type 0
 Padded text bs = bs ≡ text ++ replicate (4 - length text) 0
 
 pub padded_copy : (text copy : List ℕ) → copy ≡ text → Padded text (copy ++ post_of 0 (length text - 0) (replicate 4 0))
 padded_copy text copy same = ap₂ (λ x y. x ++ y) same (ap (λ n. drop n (replicate 4 0)) (sub-zero (length text)) ∙ drop-replicate (length text) 4 0)
-
-pub padded_back : (text bs : List ℕ) → Padded text bs → length (letters bs) ≡ length text → letters bs ≡ text
-padded_back text bs is long = letters_front bs ∙ ap₂ take long is ∙ take_at text (replicate (4 - length text) 0) (length text) refl
 
 -- a name with these letters is these letters, padded
 pub padded_name : (text bs name : List ℕ) → Padded text bs → is_name name ≡ true → letters name ≡ text → name ≡ bs

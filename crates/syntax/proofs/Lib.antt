@@ -1,4 +1,3 @@
-pub mod Spelled
 pub mod Conversions
 pub mod Letters
 pub mod Codes

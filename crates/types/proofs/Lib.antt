@@ -1,2 +1,1 @@
-pub mod Metered
 pub mod Giving

@@ -108,12 +108,3 @@ pub link_step : (n : ℕ) (g : Graph) → Tidy n g → (i j start : ℕ) → i <
 link_step n g tidy i j start inside at same =
     let less : j < i = subst (Proper n i) at (tidy.proper i) in
     (omega (arith, less, inside), sym (find_link n g tidy i j at) ∙ same)
-
-no_link : (c : Cell) → ((j : ℕ) → c ≡ link j → ⊥) → NotLink c
-no_link free never = tt
-no_link (link j) never = never j refl
-no_link (atom h) never = tt
-no_link (apply a b) never = tt
-
-pub link_ends : (g : Graph) (i start : ℕ) → ((j : ℕ) → cell g i ≡ link j → ⊥) → find g i ≡ find g start → i ≡ find g start
-link_ends g i start never same = sym (find_stays g i (no_link (cell g i) never)) ∙ same

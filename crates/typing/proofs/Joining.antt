@@ -218,10 +218,6 @@ all_types_at Q none [] all j = none
 all_types_at Q none (t ∷ ts) all zero = all.0
 all_types_at Q none (t ∷ ts) all (suc j) = all_types_at Q none ts all.1 j
 
-all_types_more : (Q R : Term → Type 0) → ((t : Term) → Q t → R t) → (ts : List Term) → AllTypes Q ts → AllTypes R ts
-all_types_more Q R f [] all = tt
-all_types_more Q R f (t ∷ ts) all = (f t all.0, all_types_more Q R f ts all.1)
-
 -- the joined forms speak of their own variables
 pub record JoinBounded (n : ℕ) (J : Joined) : Type 0 where
   pub entries : EntriesBounded n J.entries
