@@ -27,7 +27,7 @@ pub record State : Type 0 where
   pub pairs : Pairs
 
 abbrev pub state_of : Draft → State
-state_of d = record { graph = graph_of d.table; slots = slots_of (entries_of d.entries); pairs = pairs_of d.pairs }
+state_of d = record { graph = graph_of d.table.now; slots = slots_of (entries_of d.entries); pairs = pairs_of d.pairs }
 
 -- so many free cells
 abbrev pub unknowns : ℕ → State

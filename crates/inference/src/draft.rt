@@ -4,10 +4,11 @@ ghost use Rattle.std.specs.Prelude.{◌≡◌, ◌≤◌, []};
 ghost use Rattle.typing.specs.Cells.{unify};
 ghost use Rattle.typing.specs.Constraints.{type_of};
 ghost use Rattle.typing.specs.Posing.{finished_at};
-ghost use Rattle.inference.specs.Drafts.{Does, LaysAt, build_at, equate_at, put_slot, state_of, unknowns};
+ghost use Rattle.inference.specs.Drafts.{Does, LaysAt, build_at, equate_at, put_slot, state_of, unknowns, with_graph};
 ghost use Rattle.inference.specs.Nodes.{Ready};
 ghost use Rattle.inference.specs.Outcomes.{Concludes};
 ghost use Rattle.inference.specs.Posed.{drop_name};
+ghost use Rattle.inference.specs.Tables.{graph_of};
 
 use crate::base::Base;
 use crate::entries::Entries;
@@ -25,18 +26,19 @@ use typing::cell::Cell;
 use typing::head::Head;
 
 #[derive(Drop)]
-pub struct Draft {
-    table: Table,
+pub struct Draft<'t> {
+    table: &'t mut Table,
     entries: Entries,
     pairs: ArrayVec<(usize, usize), MOST_PAIRS>,
 }
 
-impl Draft {
-    pub(crate) fn new() -> Draft
-        ensures { state_of result ≡ unknowns 0 }
+impl<'t> Draft<'t> {
+    // The table is lent, since one inside a draft would be copied when the draft is moved.
+    pub(crate) fn new(table: &'t mut Table) -> Draft<'t>
+        ensures { state_of result ≡ with_graph (unknowns 0) (graph_of table.old) }
     {
         Draft {
-            table: Table::new(),
+            table,
             entries: Entries::new(),
             pairs: ArrayVec::new(),
         }
@@ -58,7 +60,7 @@ impl Draft {
     ) -> Result<(usize, &'a [u8]), Fault>
         ensures { LaysAt base.cell bytes.now (state_of self.old) (state_of self.new) result }
     {
-        lay_term(bytes, base, &mut self.table)
+        lay_term(bytes, base, self.table)
     }
 
     // Adds a head over the cells of its parts, and answers its cell.

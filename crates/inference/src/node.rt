@@ -1,13 +1,15 @@
 // The typing string of a node over the strings of its children.
-ghost use Rattle.std.specs.Prelude.{◌≡◌, ◌≤◌, length};
+ghost use Rattle.std.specs.Prelude.{◌≡◌, ◌≤◌, [], length};
 ghost use Rattle.reading.specs.Readings.{Weighed, refusal, texts};
 ghost use Rattle.inference.specs.Nodes.{Answered, Infers, Lawful, Writes, allowed, typed};
+ghost use Rattle.inference.specs.Tables.{graph_of};
 
 use crate::base::Base;
 use crate::constrain::constrain;
 use crate::draft::Draft;
 use crate::join::add_children;
 use crate::outcome::Outcome;
+use crate::table::Table;
 use crate::tally::{sum_tallies, with_node};
 use crate::typing_string::write_string;
 use forms::outline::is_lawful;
@@ -22,7 +24,17 @@ fn infer(symbol: Symbol, parts: &[&[u8]]) -> Result<Outcome, Fault>
     requires { Lawful symbol (texts parts.now) }
     ensures { Infers symbol (texts parts.now) result }
 {
-    let mut draft = Draft::new();
+    infer_over(symbol, parts, &mut Table::new())
+}
+
+// The same over a table that has no cells. The draft is made in a function of its own, so that it can have
+// the place on the stack that making the table took.
+fn infer_over(symbol: Symbol, parts: &[&[u8]], table: &mut Table) -> Result<Outcome, Fault>
+    requires lawful { Lawful symbol (texts parts.now) }
+    requires empty { graph_of table.old ≡ [] }
+    ensures { Infers symbol (texts parts.now) result }
+{
+    let mut draft = Draft::new(table);
     let mut types = [0; 3];
     let fresh = add_children(parts, Base { cell: 0 }, &mut draft, &mut types)?;
     let result = constrain(symbol, fresh, &types, &mut draft)?;
