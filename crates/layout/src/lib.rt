@@ -1,4 +1,4 @@
-// The layout of a sheet file: group numbers, nodes, and whole files, read.
+// The layout of a sheet file: group numbers, spelled and read, nodes, and whole files, read.
 #![tactic(auto)]
 
 pub mod group;
