@@ -2,6 +2,7 @@ pub mod Readings
 pub mod Twice
 pub mod NameStrings
 pub mod NamesRule
+pub mod Meters
 pub mod NameSets
 pub mod FreeNames
 pub mod WorkedNames

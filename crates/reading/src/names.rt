@@ -3,6 +3,7 @@
 ghost use Rattle.std.specs.Prelude.{◌≡◌, ◌<◌, ◌≤◌, MatchResult};
 ghost use Rattle.syntax.specs.declared.fault.Fault.TheVariants.{Misfit};
 ghost use Rattle.reading.specs.FreeNames.{GivesFreeNames};
+ghost use Rattle.reading.specs.Meters.{count_within, meter_of};
 ghost use Rattle.reading.specs.NameSets.{collected_of};
 ghost use Rattle.reading.specs.NamesRule.{binds, collected, named, name_in, shows};
 ghost use Rattle.reading.specs.Readings.{meter_end, texts};
@@ -30,7 +31,7 @@ impl Names {
     #[tactic(auto, using(crate::proofs::FreeLists::gives_free_names))]
     pub fn new(start: u32) -> Result<Names, Fault>
         ensures names { GivesFreeNames }
-        ensures made { MatchResult result (λ x. (x.meter.count ≡ start) × (start ≤ meter_end)) (λ fault. (fault ≡ Misfit) × (meter_end < start)) }
+        ensures made { MatchResult result (λ x. (meter_of x ≡ start) × (start ≤ meter_end)) (λ fault. (fault ≡ Misfit) × (meter_end < start)) }
     {
         let meter = Meter::starting(start)?;
         Ok(Names { meter })
@@ -40,11 +41,11 @@ impl Names {
 impl Reading for Names {
     ghost means = { λ _. named };
 
-    ghost metered = { λ x. x.meter.count };
+    ghost metered = { meter_of };
 
     ghost sound = { λ _. named_sound };
 
-    ghost within = { λ x. x.meter.within };
+    ghost within = { λ x. count_within x.meter };
 
     fn limit(&self) -> usize {
         NAMES_LIMIT

@@ -1,1 +1,2 @@
 pub mod GivenTypings
+pub mod Meters

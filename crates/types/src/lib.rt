@@ -4,9 +4,11 @@
 
 ghost use Rattle.std.specs.Prelude.{◌≡◌, ◌<◌, ◌≤◌, MatchResult};
 ghost use Rattle.syntax.specs.declared.fault.Fault.TheVariants.{Misfit};
+ghost use Rattle.reading.specs.Meters.{count_within};
 ghost use Rattle.reading.specs.Readings.{meter_end};
 ghost use Rattle.inference.specs.Nodes.{typed};
 ghost use Rattle.types.specs.GivenTypings.{GivesTypings};
+ghost use Rattle.types.specs.Meters.{meter_of};
 ghost use Rattle.inference.proofs.TypesLaws.{types_sound};
 
 use inference::node::{TYPES_LIMIT, is_allowed, write_node};
@@ -26,7 +28,7 @@ impl Types {
     // typing.
     pub fn new(start: u32) -> Result<Types, Fault>
         ensures typings { GivesTypings }
-        ensures made { MatchResult result (λ x. (x.meter.count ≡ start) × (start ≤ meter_end)) (λ fault. (fault ≡ Misfit) × (meter_end < start)) }
+        ensures made { MatchResult result (λ x. (meter_of x ≡ start) × (start ≤ meter_end)) (λ fault. (fault ≡ Misfit) × (meter_end < start)) }
     {
         let meter = Meter::starting(start)?;
         Ok(Types { meter })
@@ -36,11 +38,11 @@ impl Types {
 impl Reading for Types {
     ghost means = { λ _. typed };
 
-    ghost metered = { λ x. x.meter.count };
+    ghost metered = { meter_of };
 
     ghost sound = { λ _. types_sound };
 
-    ghost within = { λ x. x.meter.within };
+    ghost within = { λ x. count_within x.meter };
 
     fn limit(&self) -> usize {
         TYPES_LIMIT
