@@ -2,9 +2,12 @@
 // and the strings that were worked out by hand.
 ghost use Rattle.reading.specs.WorkedNames.{Works};
 
+use crate::names::Outcome::{Granted, Refused};
 use reading::names::Names;
 use reading::{MAX_METER, Reading};
 use syntax::argument::Argument;
+use syntax::fault::Fault;
+use syntax::fault::Fault::{MeterFull, Misfit, ShortBuffer, Unlawful};
 use syntax::kind::Kind;
 use syntax::name::Name;
 
@@ -14,8 +17,8 @@ const X: Argument = Argument::Name(Name([120, 0, 0, 0]));
 #[derive(Clone, Copy, Debug, PartialEq, Eq)]
 enum Outcome {
     Granted,
-    // Refused under a number, with the meter and the buffer as they were.
-    Refused(u8),
+    // Refused, with the meter and the buffer as they were.
+    Refused(Fault),
     // Refused, but something changed; or it could not be put at all.
     Spoiled,
 }
@@ -30,8 +33,8 @@ fn put(start: u32, kind: Kind, argument: Argument, parts: &[&[u8]], room: usize)
     }
     let before = out;
     match names.ask(kind, argument, parts, &mut out[0..room]) {
-        Ok(_) => Outcome::Granted,
-        Err(fault) if names.meter() == start && out == before => Outcome::Refused(u8::from(fault)),
+        Ok(_) => Granted,
+        Err(fault) if names.meter() == start && out == before => Refused(fault),
         Err(_) => Outcome::Spoiled,
     }
 }
@@ -49,43 +52,37 @@ fn one(start: u32, kind: Kind, argument: Argument, part: &[u8], room: usize) -> 
 // Each fault alone, and with those that come after it.
 #[test]
 fn refusals(rt: HostRuntime) {
-    assert_eq!(rt; leaf(0, Kind::Var, X, 254), Outcome::Granted);
-    assert_eq!(rt; leaf(0, Kind::Var, X, 255), Outcome::Granted);
-    assert_eq!(rt; leaf(MAX_METER - 1, Kind::Var, X, 254), Outcome::Granted);
-    assert_eq!(rt;
-        leaf(0, Kind::Var, Argument::Nothing, 254),
-        Outcome::Refused(2)
-    );
-    assert_eq!(rt; leaf(0, Kind::Hole, X, 254), Outcome::Refused(2));
+    assert_eq!(rt; leaf(0, Kind::Var, X, 254), Granted);
+    assert_eq!(rt; leaf(0, Kind::Var, X, 255), Granted);
+    assert_eq!(rt; leaf(MAX_METER - 1, Kind::Var, X, 254), Granted);
+    assert_eq!(rt; leaf(0, Kind::Var, Argument::Nothing, 254), Refused(Misfit));
+    assert_eq!(rt; leaf(0, Kind::Hole, X, 254), Refused(Misfit));
     assert_eq!(rt;
         leaf(0, Kind::Var, Argument::Name(Name([120, 0, 120, 0])), 254),
-        Outcome::Refused(2)
+        Refused(Misfit)
     );
     assert_eq!(rt;
         leaf(0, Kind::Num, Argument::Number(1_000_000), 254),
-        Outcome::Refused(2)
+        Refused(Misfit)
     );
     assert_eq!(rt;
         one(MAX_METER, Kind::Lam, Argument::Nothing, b"\x05", 0),
-        Outcome::Refused(2)
+        Refused(Misfit)
     );
-    assert_eq!(rt; leaf(MAX_METER, Kind::Var, X, 254), Outcome::Refused(9));
+    assert_eq!(rt; leaf(MAX_METER, Kind::Var, X, 254), Refused(MeterFull));
     assert_eq!(rt;
         one(MAX_METER, Kind::Lam, X, b"\x05", 0),
-        Outcome::Refused(9)
+        Refused(MeterFull)
     );
-    assert_eq!(rt; leaf(0, Kind::Var, X, 253), Outcome::Refused(10));
-    assert_eq!(rt; leaf(0, Kind::Var, X, 0), Outcome::Refused(10));
-    assert_eq!(rt; one(0, Kind::Lam, X, b"\x05", 253), Outcome::Refused(10));
-    assert_eq!(rt; one(0, Kind::Lam, X, b"\x05", 254), Outcome::Refused(12));
-    assert_eq!(rt; leaf(0, Kind::Lam, X, 254), Outcome::Refused(12));
-    assert_eq!(rt;
-        one(0, Kind::Var, X, b"\x03\x00", 255),
-        Outcome::Refused(12)
-    );
+    assert_eq!(rt; leaf(0, Kind::Var, X, 253), Refused(ShortBuffer));
+    assert_eq!(rt; leaf(0, Kind::Var, X, 0), Refused(ShortBuffer));
+    assert_eq!(rt; one(0, Kind::Lam, X, b"\x05", 253), Refused(ShortBuffer));
+    assert_eq!(rt; one(0, Kind::Lam, X, b"\x05", 254), Refused(Unlawful));
+    assert_eq!(rt; leaf(0, Kind::Lam, X, 254), Refused(Unlawful));
+    assert_eq!(rt; one(0, Kind::Var, X, b"\x03\x00", 255), Refused(Unlawful));
     assert_eq!(rt;
         one(0, Kind::App, Argument::Nothing, b"\x03\x00", 254),
-        Outcome::Refused(12)
+        Refused(Unlawful)
     );
 }
 

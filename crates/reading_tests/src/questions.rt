@@ -1,6 +1,7 @@
 // Answers to lines, and the buffers that they are written into. What a line is answered is tested
 // line by line on the program that answers them.
 use question::{ANSWER_ROOM, answer};
+use syntax::fault::Fault;
 
 // Whether a line gets an answer in a buffer of so many bytes: none, where the buffer is too short.
 fn gets(line: &[u8], text: &[u8], room: usize) -> bool {
@@ -14,7 +15,7 @@ fn gets(line: &[u8], text: &[u8], room: usize) -> bool {
 fn is_told(line: &[u8], text: &[u8], out: &mut [u8]) -> bool {
     match answer(line, out) {
         Ok(n) => n == text.len() && out.starts_with(text),
-        Err(fault) => u8::from(fault) == 10 && text.is_empty(),
+        Err(fault) => fault == Fault::ShortBuffer && text.is_empty(),
     }
 }
 
