@@ -1,11 +1,11 @@
 -- Texts held by value, and what a writer leaves in a lent buffer. Assumes nothing.
-use Rattle.std.specs.Prelude.{◌≡◌, ℕ, ◌<◌, ◌≤◌, Bool, List, ◌++◌, length, drop, Err, MatchBool, Result, MatchResult}
+use Rattle.std.specs.Prelude.{◌≡◌, ℕ, ◌<◌, ◌≤◌, Bool, List, ◌++◌, length, take, drop, Err, MatchBool, Result, MatchResult}
 use Rattle.syntax.specs.declared.fault.Fault.{Fault}
 use Rattle.syntax.specs.declared.fault.Fault.TheVariants.{Misfit, ShortBuffer}
 use Rattle.notation.specs.declared.text.Text.{Text}
 
 abbrev pub text_of : Text → List ℕ
-text_of t = t.bytes.items
+text_of t = take t.len t.bytes
 
 -- The text stands at the front of the buffer, which is otherwise as it was, and its length is the
 -- answer; or it is too long for the buffer, which is then as it was.
