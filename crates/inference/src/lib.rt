@@ -10,7 +10,7 @@ mod entry;
 mod graph;
 mod join;
 mod lay;
-mod meeting;
+pub mod meeting;
 pub mod node;
 mod outcome;
 mod script;

@@ -19,7 +19,7 @@ pub struct Parts {
 }
 
 // The cell that two cells become, and their parts if both have any.
-fn meet(low: Cell, high: Cell) -> Result<(Cell, Option<Parts>), Clash>
+pub fn meet(low: Cell, high: Cell) -> Result<(Cell, Option<Parts>), Clash>
     ensures { met_of result ≡ cells.meet low high }
 {
     match (low, high) {
