@@ -1,12 +1,12 @@
 -- The graph that a table holds. Assumes nothing.
-use Rattle.std.specs.Prelude.{◌≡◌, ℕ, ◌≤◌, [], ◌∷◌, ◌++◌, length, Result, MatchResult}
+use Rattle.std.specs.Prelude.{◌≡◌, ℕ, ◌≤◌, [], ◌∷◌, ◌++◌, length, take, Result, MatchResult}
 use Rattle.syntax.specs.declared.fault.Fault.{Fault}
 use Rattle.typing.specs.Cells.{Graph}
 use Rattle.typing.specs.declared.cell.Cell.{Cell}
 use Rattle.inference.specs.declared.table.Table.{Table}
 
 abbrev pub graph_of : Table → Graph
-graph_of t = t.cells.items
+graph_of t = take t.len t.cells
 
 -- how many cells a table can hold
 abbrev pub most_cells : ℕ

@@ -13,12 +13,10 @@ ghost use Rattle.inference.specs.Tables.{graph_of};
 use crate::base::Base;
 use crate::entries::Entries;
 use crate::entry::Entry;
-use crate::graph::Graph;
 use crate::lay::lay_term;
 use crate::outcome::Outcome;
 use crate::table::Table;
 use crate::worklist::MOST_PAIRS;
-use crate::writer::write_form;
 use arrayvec::ArrayVec;
 use syntax::fault::Fault;
 use syntax::name::Name;
@@ -107,9 +105,7 @@ impl<'t> Draft<'t> {
         requires { Ready (state_of self.old) type_cell }
         ensures { Concludes (finished_at (record { entries = (state_of self.old).slots; result = type_cell }) (unify (state_of self.old).graph (state_of self.old).pairs)) result }
     {
-        let mut graph = Graph::new(self.table.cells.as_mut_slice());
-        graph.unify(&mut self.pairs)?;
-        graph.check_acyclic()?;
-        Ok(write_form(&graph, self.entries.as_slice(), type_cell)?)
+        self.table
+            .solve(&mut self.pairs, self.entries.as_slice(), type_cell)
     }
 }

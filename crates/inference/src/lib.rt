@@ -14,6 +14,7 @@ pub mod meeting;
 pub mod node;
 mod outcome;
 mod script;
+mod solve;
 mod table;
 mod tally;
 mod typing_string;
