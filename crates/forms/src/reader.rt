@@ -67,8 +67,17 @@ impl<'a> Reader<'a> {
         ensures { Took self.old self.new result }
     {
         let (number, rest) = read_number(self.rest)?;
-        self.rest = rest;
+        self.go_on(rest);
         Ok(number)
+    }
+
+    // Leaves these bytes. They come as an argument, in two words: straight from a pair they would be
+    // copied across its words, and each next read would wait for the copy.
+    fn go_on(&mut self, rest: &'a [u8])
+        requires { length self.old.0 + length rest.now ≤ 240 }
+        ensures { self.new ≡ (self.old.0, rest.now) }
+    {
+        self.rest = rest;
     }
 
     // The name at the front, if it comes after `last`.
