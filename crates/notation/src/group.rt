@@ -12,9 +12,12 @@ pub fn write_group(value: u32, out: &mut [u8]) -> Result<usize, Fault>
     ensures { WroteIf (nat_lt value (bound 2)) (group value) out.old out.new result }
 {
     let bytes = group_bytes(value).ok_or(Fault::Misfit)?;
-    let mut text = Text::new();
-    text.append(bytes.as_slice());
-    text.copy_to(out)
+    let n = bytes.len();
+    if n > out.len() {
+        return Err(Fault::ShortBuffer);
+    }
+    out[..n].copy_from_slice(bytes.as_slice());
+    Ok(n)
 }
 
 // Adds a group number to a text.
@@ -24,6 +27,8 @@ pub(crate) fn push_group(text: &mut Text, value: u32)
     ensures { text_of text.new ≡ text_of text.old ++ group value }
 {
     if let Some(bytes) = group_bytes(value) {
-        text.append(bytes.as_slice());
+        for b in bytes.as_slice() {
+            text.push(*b);
+        }
     }
 }

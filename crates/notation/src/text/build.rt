@@ -22,7 +22,8 @@ impl Text {
         ensures bytes { text_of self.new ≡ text_of self.old ++ b ∷ [] }
         ensures len { length (text_of self.new) ≡ length (text_of self.old) + 1 }
     {
-        self.append(&[b]);
+        self.bytes[self.len] = b;
+        self.len += 1;
     }
 
     // Adds bytes, for which there is room.
