@@ -1,12 +1,14 @@
 -- Writing terms one after the other, with the variables that have appeared, spells the form whose
 -- variables are numbered by first appearance. Assumes nothing.
-use Rattle.std.proofs.Common.{◌≡◌, ℕ, suc, ◌+◌, Bool, true, false, cond, eqb, List, [], ◌∷◌, ◌++◌, length, sym, refl, ap, ◌∙◌, ap₂}
+use Rattle.std.proofs.Common.{◌≡◌, ℕ, suc, ◌+◌, ◌≤◌, Bool, true, false, cond, eqb, List, [], ◌∷◌, ◌++◌, length, sym, refl, ap, ◌∙◌, ap₂, arith, length-append}
+use Rattle.std.proofs.lemmas.List.{length_push}
 use Rattle.std.proofs.lemmas.Bool.{or_parts}
 use Rattle.layout.specs.Groups.{group}
+use Rattle.layout.proofs.Groups.{groups_some}
 use Rattle.typing.specs.Forms.{Name, Form, entry_variables}
 use Rattle.typing.specs.Solve.{renamed_entries, filled, member, distinct, position, canonical}
 use Rattle.typing.specs.Strings.{term_bytes, entries_bytes, form_bytes}
-use Rattle.typing.specs.Terms.{Term, var, ◌·◌, fill, variables}
+use Rattle.typing.specs.Terms.{Term, var, head, ◌·◌, fill, variables}
 use Rattle.typing.proofs.Numbering.{position_here, position_new, distinct_grows}
 use Rattle.typing.proofs.Renaming.{each_map, fill_alike, entries_alike, distinct_has}
 use Rattle.inference.specs.Writings.{place_in, seen_after, spelled, seen_after_all, spelled_all}
@@ -73,3 +75,29 @@ spelled_form F =
     let t = F.result in
     ap (λ S. form_bytes (filled (place_in S) F)) (distinct_append (entry_variables es) (variables t) [])
     ∙ ap₂ (λ (n : ℕ) (z : List ℕ). group n ++ (z ++ spelled (seen_after_all [] es) t)) (length_renamed _ es) (spelled_all_stays es [] (variables t))
+
+-- No more variables appear than bytes are written.
+length_distinct : (ks seen : List ℕ) → length (distinct seen ks) ≤ length seen + length ks
+length_distinct [] seen = omega arith
+length_distinct (k ∷ ks) seen = by_test (member k seen) (length_distinct ks seen) (length_distinct ks (seen ++ k ∷ []))
+  where
+    by_test : (b : Bool) → length (distinct seen ks) ≤ length seen + length ks → length (distinct (seen ++ k ∷ []) ks) ≤ length (seen ++ k ∷ []) + length ks → length (distinct (cond b seen (seen ++ k ∷ [])) ks) ≤ length seen + suc (length ks)
+    by_test true stays grows = omega (arith, stays)
+    by_test false stays grows = omega (arith, grows, length_push seen k)
+
+length_spelled : (f : ℕ → ℕ) (t : Term) → length (variables t) ≤ length (term_bytes (fill (λ k. var (f k)) t))
+length_spelled f (var k) = omega (arith, groups_some 2 (5 + f k))
+length_spelled f (head h) = omega arith
+length_spelled f (g · x) =
+    omega (arith, length-append (variables g) (variables x), length-append (term_bytes (fill (λ k. var (f k)) g)) (term_bytes (fill (λ k. var (f k)) x)), length_spelled f g, length_spelled f x)
+
+pub seen_few : (t : Term) (seen : List ℕ) → length (seen_after seen t) ≤ length seen + length (spelled seen t)
+seen_few t seen = omega (arith, length_distinct (variables t) seen, length_spelled (λ k. position k (seen_after seen t)) t)
+
+pub seen_few_all : (es : List (Name × Term)) (seen : List ℕ) → length (seen_after_all seen es) ≤ length seen + length (spelled_all seen es)
+seen_few_all [] seen = omega arith
+seen_few_all (e ∷ es) seen =
+    let t = e.1 in
+    let S = spelled seen t in
+    let R = spelled_all (seen_after seen t) es in
+    omega (arith, ap length (seen_entry e.0 t es seen), ap length (spelled_entry e.0 t es seen), length-append e.0 (S ++ R), length-append S R, seen_few t seen, seen_few_all es (seen_after seen t))
