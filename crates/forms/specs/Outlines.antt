@@ -35,6 +35,21 @@ abbrev pub outlined : Option Typing → Result Outline Fault
 outlined None = Err Unlawful
 outlined (Some T) = Ok (outline_of T)
 
+-- the figures of the form; without one there are no names and no variables, and what would stand behind
+-- the counts begins where a string of this length ends
+abbrev pub figure : (FormOutline → ℕ) → ℕ → Result FormOutline Untyped → ℕ
+figure of none (Ok form) = of form
+figure of none (Err why) = none
+
+abbrev pub names_in : Outline → ℕ
+names_in o = figure (λ form. form.open_names) 0 o.form
+
+abbrev pub variables_in : Outline → ℕ
+variables_in o = figure (λ form. form.variables) 0 o.form
+
+abbrev pub places_in : ℕ → Outline → ℕ × ℕ
+places_in len o = (figure (λ form. form.entries_at) len o.form, figure (λ form. form.type_at) len o.form)
+
 -- the outline of a form that ends a string of so many bytes
 abbrev pub ending : ℕ → Form → FormOutline
 ending end F =

@@ -1,7 +1,7 @@
 // Reading a typing string: its counts, and where its form stands.
 ghost use Rattle.std.specs.Prelude.{◌≡◌};
 ghost use Rattle.typing.specs.Parsing.{is_lawful, read_typing};
-ghost use Rattle.forms.specs.Outlines.{Tallied, outlined};
+ghost use Rattle.forms.specs.Outlines.{Tallied, names_in, outlined, places_in, variables_in};
 
 use crate::number::read_number;
 use crate::status::read_status;
@@ -43,6 +43,30 @@ pub struct FormOutline {
 pub struct Outline {
     pub tally: Tally,
     pub form: Result<FormOutline, Untyped>,
+}
+
+impl Outline {
+    // How many names are open: those that the form lists, and none where there is no form.
+    pub fn open_names(&self) -> usize
+        ensures { result ≡ names_in self.now }
+    {
+        self.form.map_or(0, |form| form.open_names)
+    }
+
+    // How many variables the form has, and none where there is no form.
+    pub fn variables(&self) -> usize
+        ensures { result ≡ variables_in self.now }
+    {
+        self.form.map_or(0, |form| form.variables)
+    }
+
+    // Where the entries and the type begin in a string of this length: at its end where there is no form.
+    pub fn places(&self, len: usize) -> (usize, usize)
+        ensures { result ≡ places_in len self.now }
+    {
+        self.form
+            .map_or((len, len), |form| (form.entries_at, form.type_at))
+    }
 }
 
 // The outline of a typing string; any other string is refused.
