@@ -1,8 +1,8 @@
 -- The names reading keeps the laws of readings. Assumes nothing.
-use Rattle.std.specs.Prelude.{◌≡◌, ℕ, ◌+◌, ◌<◌, true, List, [], ◌∷◌, length, drop, Some, None, Option, ◌==◌, slice_index_or, refl}
+use Rattle.std.specs.Prelude.{◌≡◌, ℕ, ◌+◌, ◌<◌, ◌≤◌, true, List, [], ◌∷◌, length, drop, Some, None, Option, ◌==◌, slice_index_or, refl}
 use Rattle.std.proofs.Common.{ap, arith}
 use Rattle.std.specs.Borrow.{Bor}
-use Rattle.std.proofs.lemmas.List.{drop_more}
+use Rattle.std.proofs.lemmas.List.{drop_more, drop_all}
 use Rattle.std.proofs.lemmas.Bool.{and_parts}
 use Rattle.syntax.specs.Arguments.{fits, of_sort}
 use Rattle.syntax.specs.Kinds.{arity, sort_of}
@@ -21,6 +21,9 @@ use Rattle.reading.specs.NameLists.{Valid, Good, add_good, merge_good, spelled_a
 module _ (bound : Option Name) (set : Option (List Name)) (slices : List (Bor (List ℕ))) (i : ℕ) where
   pub merge_more : (d : Bor (List ℕ)) → i < length slices → merge_all bound (texts (drop i slices)) set ≡ merge_all bound (texts (drop (i + 1) slices)) (merge bound (slice_index_or slices i d).now set)
   merge_more d within = ap (λ z. merge_all bound (texts z) set) (drop_more slices i d within)
+
+  pub merge_end : length slices ≤ i → merge_all bound (texts (drop i slices)) set ≡ set
+  merge_end past = ap (λ z. merge_all bound (texts z) set) (drop_all i slices past)
 
 pub merge_all_good : (bound : Option Name) (parts : List (List ℕ)) (set : Option (List Name)) → allows_all named parts ≡ true → Good set → Good (merge_all bound parts set)
 merge_all_good bound [] set h good = good

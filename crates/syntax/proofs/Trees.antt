@@ -1,7 +1,15 @@
 -- Trees and their subtrees: depth, size and paths. Assumes nothing.
-use Rattle.std.proofs.Common.{◌≡◌, ℕ, zero, suc, ◌+◌, ◌<◌, ◌≤◌, ◌⊎◌, List, [], ◌∷◌, length, Some, None, Option, refl, ap, ◌∙◌, inl, inr, arith}
+use Rattle.std.proofs.Common.{◌≡◌, ℕ, zero, suc, ◌+◌, ◌<◌, ◌≤◌, ◌⊎◌, List, [], ◌∷◌, ◌++◌, length, Some, None, Option, refl, ap, ◌∙◌, inl, inr, arith}
 use Rattle.std.proofs.lemmas.Bool.{cases_lt}
-use Rattle.syntax.specs.Trees.{Forest, none, grow, Tree, node, map, nodes, levels, size, height, child, under, subtree}
+use Rattle.syntax.specs.Trees.{Forest, none, grow, Tree, node, map, count, nodes, levels, size, height, child, under, subtree}
+
+under_append : {A : Type 0} (o : Option (Tree A)) (g h k : Tree A → Option (Tree A)) → ((u : Tree A) → k u ≡ under (g u) h) → under o k ≡ under (under o g) h
+under_append None g h k same = refl
+under_append (Some u) g h k same = same u
+
+pub subtree_append : {A : Type 0} (p q : List ℕ) (t : Tree A) → subtree (p ++ q) t ≡ under (subtree p t) (subtree q)
+subtree_append [] q t = refl
+subtree_append (k ∷ p) q (node a c) = under_append (child c k) (subtree p) (subtree q) (subtree (p ++ q)) (subtree_append p q)
 
 never : {A : Type 0} {t : Tree A} → None ≡ Some t → ⊥
 never e = let z : ◌≡◌ {A = ℕ} 0 1 = cc in omega arith
@@ -49,3 +57,11 @@ module _ {A B : Type 0} (h : A → B) where
   pub nodes_map : (f : Forest A) → nodes (map h f) ≡ nodes f
   nodes_map none = refl
   nodes_map (grow a c f) = omega (arith, nodes_map c, nodes_map f)
+
+  pub levels_map : (f : Forest A) → levels (map h f) ≡ levels f
+  levels_map none = refl
+  levels_map (grow a c f) = omega (arith, levels_map c, levels_map f)
+
+  pub count_map : (f : Forest A) → count (map h f) ≡ count f
+  count_map none = refl
+  count_map (grow a c f) = omega (arith, count_map f)
