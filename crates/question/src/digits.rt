@@ -6,7 +6,7 @@ ghost use Rattle.question.specs.Fields.{is_string};
 
 use arrayvec::ArrayVec;
 
-// The most bytes that a string of a line stands for.
+// The most bytes that the strings of a line stand for.
 pub const ROOM: usize = 2048;
 
 fn is_digit(c: u8) -> bool
@@ -35,19 +35,18 @@ fn worth(c: u8) -> u8
     if c <= b'9' { c - b'0' } else { c - b'a' + 10 }
 }
 
-// The bytes that a child's string stands for.
-pub(crate) fn unhex(text: &[u8]) -> ArrayVec<u8, ROOM>
+// Appends the bytes that a child's string stands for.
+pub(crate) fn unhex(text: &[u8], bytes: &mut ArrayVec<u8, ROOM>)
     requires string { is_string text.now ≡ true }
-    requires short { length text.now ≤ 4096 }
-    ensures { result.items ≡ unhexed text.now }
+    requires room { 2 * length bytes.old.items + length text.now ≤ 4096 }
+    ensures half { 2 * length bytes.new.items ≤ 2 * length bytes.old.items + length text.now }
+    ensures items { bytes.new.items ≡ bytes.old.items ++ unhexed text.now }
 {
-    let mut bytes = ArrayVec::new();
     let mut rest = text;
     while let Some((pair, after)) = rest.split_first_chunk::<2>() {
         bytes.push(16 * worth(pair[0]) + worth(pair[1]));
         rest = after;
     }
-    bytes
 }
 
 // Writes the digits of bytes at the front of a buffer.

@@ -7,6 +7,7 @@ ghost use Rattle.question.specs.Digits.{unhex as unhexed};
 
 use crate::digits::unhex;
 use crate::fields::split_field;
+use arrayvec::ArrayVec;
 use reading::Reading;
 use syntax::argument::Symbol;
 use syntax::fault::Fault;
@@ -31,25 +32,26 @@ pub(crate) fn ask_strings<R: Reading>(
     let Some(rest) = rest else {
         return reading.ask(kind, argument, &[], out);
     };
+    let mut bytes = ArrayVec::new();
     let (field, rest) = split_field(rest);
-    let first = unhex(field);
+    unhex(field, &mut bytes);
+    let a = bytes.len();
     let Some(rest) = rest else {
-        return reading.ask(kind, argument, &[first.as_slice()], out);
+        return reading.ask(kind, argument, &[bytes.as_slice()], out);
     };
     let (field, rest) = split_field(rest);
-    let second = unhex(field);
+    unhex(field, &mut bytes);
+    let b = bytes.len();
     let Some(rest) = rest else {
-        return reading.ask(kind, argument, &[first.as_slice(), second.as_slice()], out);
+        let (first, second) = bytes.as_slice().split_at(a);
+        return reading.ask(kind, argument, &[first, second], out);
     };
     let (field, rest) = split_field(rest);
-    let third = unhex(field);
+    unhex(field, &mut bytes);
     if rest.is_some() {
         return Err(Fault::Unlawful);
     }
-    reading.ask(
-        kind,
-        argument,
-        &[first.as_slice(), second.as_slice(), third.as_slice()],
-        out,
-    )
+    let (front, third) = bytes.as_slice().split_at(b);
+    let (first, second) = front.split_at(a);
+    reading.ask(kind, argument, &[first, second, third], out)
 }

@@ -4,8 +4,8 @@ use Rattle.question.proofs.digits.unhex.Given as goal
 
 abbrev pub invariant-loop-pair : goal.invariant-loop-pair
 invariant-loop-pair l =
-    (l.bytes.items ++ unhex l.rest ≡ unhex l.initial.rest)
-    × (2 * length l.bytes.items + length l.rest ≡ length l.initial.rest)
+    (l.bytes.items ++ unhex l.rest ≡ l.initial.bytes.items ++ unhex l.initial.rest)
+    × (2 * length l.bytes.items + length l.rest ≡ 2 * length l.initial.bytes.items + length l.initial.rest)
     × ((ltb (length l.rest) 2 || is_hex l.rest) ≡ true)
 
 abbrev pub decreases-loop-pair : goal.decreases-loop-pair
