@@ -11,8 +11,3 @@ names_of s = s.names.items
 abbrev pub kept : Result (Unit {0}) TooMany → List Name → Option (List Name)
 kept (Ok done) ns = Some ns
 kept (Err e) ns = None
-
--- the names that were collected, unless there are too many
-abbrev pub collected_of : Result NameSet TooMany → Option (List Name)
-collected_of (Ok s) = Some (names_of s)
-collected_of (Err e) = None

@@ -1,12 +1,11 @@
 // A set of names, up to the 63 that a string lists, and the strings of such sets. Names that join in
 // rising order stand in rising order.
-ghost use Rattle.std.specs.Prelude.{◌≡◌, [], ◌++◌, length, drop, if◌then◌else◌, Ok, Some};
+ghost use Rattle.std.specs.Prelude.{◌≡◌, ◌+◌, ◌≤◌, [], ◌++◌, length, take, drop, if◌then◌else◌, None, Some};
 ghost use Rattle.std.specs.Option.{option_to_list};
-ghost use Rattle.reading.specs.NameSets.{collected_of, kept, names_of};
-ghost use Rattle.reading.specs.NameStrings.{allowed, fours, key as rank, listing, rising, spelled};
+ghost use Rattle.reading.specs.NameSets.{kept, names_of};
+ghost use Rattle.reading.specs.NameStrings.{allowed, fours, key as rank, rising, spelled};
 ghost use Rattle.reading.specs.NamesRule.{add as added, insert as inserted, is_bound, join as joining, merge as merging};
 
-use crate::names::NAMES_LIMIT;
 use arrayvec::{ArrayVec, CapacityError};
 use std::mem;
 use syntax::name::Name;
@@ -114,30 +113,40 @@ impl NameSet {
             _ => Ok(()),
         }
     }
+
+    // Writes the string that lists the set at the front of a buffer that has room for any.
+    pub(crate) fn write(&self, out: &mut [u8]) -> usize
+        requires { 254 ≤ length out.old }
+        ensures long { result ≡ length (spelled (Some (names_of self.now))) }
+        ensures wrote { out.new ≡ spelled (Some (names_of self.now)) ++ drop result out.old }
+    {
+        let names = self.names.as_slice();
+        out[0] = LISTED;
+        out[1] = names.len() as u8;
+        for (i, name) in names.iter().enumerate() {
+            put(out, 2 + 4 * i, *name);
+        }
+        2 + 4 * names.len()
+    }
 }
 
-// The string of the names that were collected.
-pub(crate) fn spell(collected: &Result<NameSet, TooMany>) -> ArrayVec<u8, NAMES_LIMIT>
-    ensures { result.items ≡ spelled (collected_of collected.now) }
+// Writes the string of too many names at the front of a buffer.
+pub(crate) fn write_many(out: &mut [u8]) -> usize
+    requires { 1 ≤ length out.old }
+    ensures long { result ≡ length (spelled None) }
+    ensures wrote { out.new ≡ spelled None ++ drop result out.old }
 {
-    let mut text = ArrayVec::new();
-    match collected {
-        Ok(set) => list(&set.names, &mut text),
-        Err(_) => text.push(MANY),
-    }
-    text
+    out[0] = MANY;
+    1
 }
 
-// Writes the string that lists some names in an empty text.
-fn list(names: &ArrayVec<Name, MOST_NAMES>, text: &mut ArrayVec<u8, NAMES_LIMIT>)
-    requires { text.old.items ≡ [] }
-    ensures { text.new.items ≡ listing names.now.items }
+// Writes a name into a buffer.
+fn put(out: &mut [u8], at: usize, name: Name)
+    requires { at + 4 ≤ length out.old }
+    ensures wrote { out.new ≡ take at out.old ++ (name.0 ++ drop (at + 4) out.old) }
+    ensures long { length name.0 ≡ 4 }
 {
-    text.push(LISTED);
-    text.push(names.len() as u8);
-    for name in names.as_slice() {
-        let _ = text.try_extend_from_slice(&name.0);
-    }
+    out[at..at + 4].copy_from_slice(&name.0);
 }
 
 fn is_bound(bound: Option<Name>, name: Name) -> bool

@@ -1,17 +1,17 @@
 // The names reading: a node's string lists the names that are free in the tree below it, in rising
 // order, or says that they are too many to be listed.
-ghost use Rattle.std.specs.Prelude.{◌≡◌, ◌<◌, ◌≤◌, MatchResult};
+ghost use Rattle.std.specs.Prelude.{◌≡◌, ◌<◌, ◌≤◌, [], MatchResult};
 ghost use Rattle.syntax.specs.declared.fault.Fault.TheVariants.{Misfit};
 ghost use Rattle.reading.specs.FreeNames.{GivesFreeNames};
 ghost use Rattle.reading.specs.Meters.{count_within, meter_of};
-ghost use Rattle.reading.specs.NameSets.{collected_of};
+ghost use Rattle.reading.specs.NameSets.{kept, names_of};
 ghost use Rattle.reading.specs.NamesRule.{binds, collected, named, name_in, shows};
 ghost use Rattle.reading.specs.Readings.{meter_end, texts};
 ghost use Rattle.reading.specs.NamesLaws.{named_sound};
 
 use crate::Reading;
 use crate::meter::Meter;
-use crate::name_set::{NameSet, TooMany, is_allowed, spell};
+use crate::name_set::{NameSet, TooMany, is_allowed, write_many};
 use syntax::argument::{Argument, Symbol};
 use syntax::fault::Fault;
 use syntax::kind::Kind;
@@ -68,27 +68,29 @@ impl Reading for Names {
     ) -> Result<usize, Fault> {
         let symbol = Symbol { kind, argument };
         self.admit(symbol, parts, out.len())?;
-        let text = spell(&collect(symbol, parts));
         self.meter.advance()?;
-        let n = text.len();
-        out[..n].copy_from_slice(text.as_slice());
-        Ok(n)
+        let mut set = NameSet::new();
+        match collect(symbol, parts, &mut set) {
+            Ok(()) => Ok(set.write(out)),
+            Err(_) => Ok(write_many(out)),
+        }
     }
 }
 
-// The names of a node: its children's, without the one that it binds, and its own.
-fn collect(symbol: Symbol, parts: &[&[u8]]) -> Result<NameSet, TooMany>
-    ensures { collected_of result ≡ collected symbol (texts parts.now) }
+// Adds the names of a node to an empty set: its children's, without the one that it binds, and its
+// own.
+fn collect(symbol: Symbol, parts: &[&[u8]], set: &mut NameSet) -> Result<(), TooMany>
+    requires { names_of set.old ≡ [] }
+    ensures { kept result (names_of set.new) ≡ collected symbol (texts parts.now) }
 {
     let bound = bound_name(symbol);
-    let mut set = NameSet::new();
     for part in parts {
         set.merge(bound, part)?;
     }
     if let Some(name) = own_name(symbol) {
         set.insert(name)?;
     }
-    Ok(set)
+    Ok(())
 }
 
 // The name that a node binds in its child.
