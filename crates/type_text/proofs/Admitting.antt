@@ -16,6 +16,7 @@ use Rattle.typing.proofs.TermReading.{term_long}
 use Rattle.type_text.specs.Prints.{admitted, status_at, typing_at, Room, Shown, Spelt}
 use Rattle.type_text.specs.TypeTexts.{answer_text, status_text, typing_text, type_text, WritesText}
 use Rattle.type_text.specs.declared.print.Printer.{Printer}
+use Rattle.type_text.proofs.Growing.{grew_whole}
 use Rattle.type_text.proofs.Lengths.{result_long, result_spelt, type_text_fits}
 
 -- a lawful string that has a form, and where its type begins
@@ -78,14 +79,17 @@ module _ (text : List ℕ) (at : ℕ) (answer : Result (List ℕ) Fault) (typed 
   part_is = take_rest text at ∙ typed.stands ∙ sym (append-nil (term_bytes typed.form.result))
 
   -- what is printed is the answer
-  pub typed_shown : (p p' : Printer) (r : Result (Unit {0}) Fault) → p.rest.now ≡ take (length text - at) (drop at text) → p.text.items ≡ [] → ((t : Term) (rest : List ℕ) → Spelt type t → p.rest.now ≡ term_bytes t ++ rest → Room (type_text t) p → Shown (type_text t) rest p p' r) → MatchResult r (λ _. answer ≡ Ok p'.text.items) (λ _. ⊥)
-  typed_shown p p' r is none shown =
+  pub typed_written : (p p' : Printer) (r : Result (Unit {0}) Fault) → p.rest.now ≡ take (length text - at) (drop at text) → p.at ≡ 0 → 4000 ≤ length p.out.now → ((t : Term) (rest : List ℕ) → Spelt type t → p.rest.now ≡ term_bytes t ++ rest → Room (type_text t) p → Shown (type_text t) rest p p' r) → MatchResult r (λ _. WritesText answer p.out.now p'.out.now (Ok p'.at)) (λ _. ⊥)
+  typed_written p p' r is start large shown =
       let t = typed.form.result in
-      answered r (shown t [] (result_spelt typed.form typed.good) (is ∙ part_is) (omega (arith, ap length none, type_text_fits typed.form typed.good)))
+      answered r (shown t [] (result_spelt typed.form typed.good) (is ∙ part_is) (omega (arith, start, large, type_text_fits typed.form typed.good)))
     where
-      answered : (r' : Result (Unit {0}) Fault) → Shown (type_text typed.form.result) [] p p' r' → MatchResult r' (λ _. answer ≡ Ok p'.text.items) (λ _. ⊥)
-      answered (Ok u) s = typed.answered ∙ ap Ok (sym (s.1 ∙ ap (λ z. z ++ type_text typed.form.result) none))
+      answered : (r' : Result (Unit {0}) Fault) → Shown (type_text typed.form.result) [] p p' r' → MatchResult r' (λ _. WritesText answer p.out.now p'.out.now (Ok p'.at)) (λ _. ⊥)
+      answered (Ok u) s =
+          let whole = grew_whole (type_text typed.form.result) p p' start s.1 in
+          subst (λ (a : Result (List ℕ) Fault). WritesText a p.out.now p'.out.now (Ok p'.at)) (sym typed.answered) (ap Ok whole.0, whole.1)
       answered (Err fault) s = s
 
-pub written : (answer : Result (List ℕ) Fault) (before : List ℕ) (text : List ℕ) → answer ≡ Ok text → WritesText answer before (text ++ drop (length text) before) (Ok (length text))
-written answer before text is = subst (λ (a : Result (List ℕ) Fault). WritesText a before (text ++ drop (length text) before) (Ok (length text))) (sym is) (refl, refl)
+-- what a loan ends with is what is found there
+pub written_there : (answer : Result (List ℕ) Fault) (before held before' held' : List ℕ) (r : Result ℕ Fault) → before ≡ before' → held' ≡ held → WritesText answer before held r → WritesText answer before' held' r
+written_there answer before held before' held' r from to written = subst (λ b. WritesText answer b held' r) from (subst (λ h. WritesText answer before h r) (sym to) written)

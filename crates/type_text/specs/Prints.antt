@@ -1,5 +1,5 @@
 -- How the printer goes on: what it takes off the bytes, and what it writes behind the text. Assumes nothing.
-use Rattle.std.specs.Prelude.{◌≡◌, ℕ, ◌+◌, ◌<◌, ◌≤◌, Bool, true, false, cond, List, [], ◌∷◌, ◌++◌, length, IfOk, Some, None, Ok, Err, Option, Result, MatchResult, nat_lt}
+use Rattle.std.specs.Prelude.{◌≡◌, ℕ, ◌+◌, ◌<◌, ◌≤◌, Bool, true, false, cond, List, [], ◌∷◌, ◌++◌, length, take, drop, IfOk, Some, None, Ok, Err, Option, Result, MatchResult, nat_lt}
 use Rattle.forms.specs.Outlines.{type_offset}
 use Rattle.layout.specs.Groups.{bound}
 use Rattle.syntax.specs.declared.fault.Fault.{Fault}
@@ -53,21 +53,27 @@ PlaceAt (OfHead Present) t rest behind = (a : Term) × (t ≡ present a) × Spel
 -- The token of the term at the front has been taken; or no term stands there.
 abbrev pub TookToken : Printer → Printer → Result Token Fault → Type 0
 TookToken p p' r =
-    MatchResult r (λ token. ((t : Term) (rest : List ℕ) → Spelt type t → p.rest.now ≡ term_bytes t ++ rest → TypeAt token t rest p'.rest.now) × ((t : Term) (rest : List ℕ) → Spelt place t → p.rest.now ≡ term_bytes t ++ rest → PlaceAt token t rest p'.rest.now) × (p'.text.items ≡ p.text.items) × (length p'.rest.now < length p.rest.now))
+    MatchResult r (λ token. ((t : Term) (rest : List ℕ) → Spelt type t → p.rest.now ≡ term_bytes t ++ rest → TypeAt token t rest p'.rest.now) × ((t : Term) (rest : List ℕ) → Spelt place t → p.rest.now ≡ term_bytes t ++ rest → PlaceAt token t rest p'.rest.now) × (p'.at ≡ p.at) × (p'.out ≡ p.out) × (length p'.rest.now < length p.rest.now))
     (λ fault. (s : Sort) (t : Term) (rest : List ℕ) → Spelt s t → p.rest.now ≡ term_bytes t ++ rest → ⊥)
 
--- the text has room for a piece
+-- the buffer has room for a piece
 abbrev pub Room : List ℕ → Printer → Type 0
-Room piece p = length p.text.items + length piece ≤ 4000
+Room piece p = p.at + length piece ≤ length p.out.now
+
+-- The lent buffer has a piece behind the bytes that were written, and is otherwise as it was.
+pub record Grew (piece : List ℕ) (p p' : Printer) : Type 0 where
+  pub long : p'.at ≡ p.at + length piece
+  pub kept : length p'.out.now ≡ length p.out.now
+  pub ahead : take p'.at p'.out.now ≡ take p.at p.out.now ++ piece
+  pub behind : drop p'.at p'.out.now ≡ drop p'.at p.out.now
 
 -- a piece has been written behind the text; or there was no room for it
 abbrev pub Put : List ℕ → Printer → Printer → Result (Unit {0}) Fault → Type 0
-Put piece p p' r =
-    MatchResult r (λ _. (p'.rest.now ≡ p.rest.now) × (p'.text.items ≡ p.text.items ++ piece)) (λ _. Room piece p → ⊥)
+Put piece p p' r = MatchResult r (λ _. (p'.rest.now ≡ p.rest.now) × Grew piece p p') (λ _. Room piece p → ⊥)
 
 -- the piece has been written, and these bytes are left to print
 abbrev pub Shown : List ℕ → List ℕ → Printer → Printer → Result (Unit {0}) Fault → Type 0
-Shown piece rest p p' r = MatchResult r (λ _. (p'.rest.now ≡ rest) × (p'.text.items ≡ p.text.items ++ piece)) (λ _. ⊥)
+Shown piece rest p p' r = MatchResult r (λ _. (p'.rest.now ≡ rest) × Grew piece p p') (λ _. ⊥)
 
 -- whether a place shows anything
 abbrev pub shows : Term → Bool
@@ -82,7 +88,7 @@ alone l gap t = field_text l gap t (type_text t) (λ _. [])
 -- the field of the place at the front has been written
 abbrev pub Fielded : Label → List ℕ → Printer → Printer → Result Bool Fault → Type 0
 Fielded l gap p p' r =
-    (t : Term) (rest : List ℕ) → Spelt place t → p.rest.now ≡ term_bytes t ++ rest → Room (alone l gap t) p → MatchResult r (λ shown. (shown ≡ shows t) × (p'.rest.now ≡ rest) × (p'.text.items ≡ p.text.items ++ alone l gap t)) (λ _. ⊥)
+    (t : Term) (rest : List ℕ) → Spelt place t → p.rest.now ≡ term_bytes t ++ rest → Room (alone l gap t) p → MatchResult r (λ shown. (shown ≡ shows t) × (p'.rest.now ≡ rest) × Grew (alone l gap t) p p') (λ _. ⊥)
 
 -- fewer bytes are left
 abbrev pub Shorter : {A : Type 0} → Printer → Printer → Result A Fault → Type 0

@@ -17,11 +17,9 @@ pub fn write_type(text: &[u8], out: &mut [u8]) -> Result<usize, Fault>
     ensures fits { TypeTextFits }
 {
     let at = admit(text, out.len())?;
-    let mut printer = Printer::new(&text[at..]);
+    let mut printer = Printer::new(&text[at..], out);
     printer.print_type()?;
-    let printed = printer.text.as_slice();
-    out[..printed.len()].copy_from_slice(printed);
-    Ok(printed.len())
+    Ok(printer.at)
 }
 
 // Where the type begins. A buffer that is too short is refused, then a string that is not lawful or has

@@ -18,3 +18,4 @@ abbrev pub invariant-print_record-loop-label : goal.invariant-print_record-loop-
 invariant-print_record-loop-label l =
     ((ts : List Term) (rest : List ℕ) → AllPlaces ts → length ts ≡ 4 → l.initial.self.rest.now ≡ places_bytes ts ++ rest → Room (fields_text labels (parts_of ts) []) l.initial.self → Left labels ts l.label-index l.gap rest l.initial.self l.self)
     × (length l.self.rest.now ≤ length l.initial.self.rest.now)
+    × (l.self.out.ghost_name ≡ l.initial.self.out.ghost_name)
