@@ -7,7 +7,9 @@ use crate::outline::{FormOutline, MAX_FORM, Untyped};
 use crate::reader::Reader;
 use syntax::fault::Fault;
 
-// What the status byte says of the bytes behind the counts, which end where the string does.
+// What the status byte says of the bytes behind the counts, which end where the string does. It stands
+// within its one caller, as does the form's reader here, so that their answers are not copied.
+#[inline(always)]
 pub(crate) fn read_status(
     status: u8,
     bytes: &[u8],
@@ -36,6 +38,7 @@ fn without_form(why: Untyped, bytes: &[u8]) -> Result<Result<FormOutline, Untype
 }
 
 // The outline of a form that ends where its string does.
+#[inline(always)]
 fn read_form(bytes: &[u8], end: usize) -> Result<FormOutline, Fault>
     requires { length bytes.now ≤ end }
     ensures { result ≡ whole end (read_form 4 bytes.now) }
