@@ -59,7 +59,9 @@ impl<'a> Printer<'a> {
         self.rest = rest;
     }
 
-    // Writes a piece behind the text.
+    // Writes a piece behind the text. It stands within its callers, so that a short piece of known length
+    // is stored, and not copied by a call.
+    #[inline(always)]
     fn put(&mut self, piece: &[u8]) -> Result<(), Fault>
         ensures text { Put piece.now self.old self.new result }
         ensures lent { self.new.out.ghost_name ≡ self.old.out.ghost_name }
