@@ -1,6 +1,6 @@
 // Bytes as pairs of lowercase hexadecimal digits. They are written by the crate `hex`; reading is
 // done here, since that crate takes capitals too.
-ghost use Rattle.std.specs.Prelude.{◌≡◌, ◌+◌, ◌*◌, ◌<◌, ◌≤◌, true, ◌++◌, length, drop};
+ghost use Rattle.std.specs.Prelude.{◌≡◌, ◌+◌, ◌*◌, ◌<◌, ◌≤◌, true, ◌||◌, ◌++◌, length, drop, nat_lt};
 ghost use Rattle.question.specs.Digits.{hex as hexed, is_digit, is_hex, unhex as unhexed, worth as worth_of};
 ghost use Rattle.question.specs.Fields.{is_string};
 
@@ -12,7 +12,7 @@ pub const ROOM: usize = 2048;
 fn is_digit(c: u8) -> bool
     ensures { result ≡ is_digit c }
 {
-    matches!(c, b'0'..=b'9' | b'a'..=b'f')
+    c.is_ascii_digit() || matches!(c, b'a'..=b'f')
 }
 
 // Whether a text is whole pairs of digits.
@@ -35,9 +35,21 @@ fn worth(c: u8) -> u8
     if c <= b'9' { c - b'0' } else { c - b'a' + 10 }
 }
 
-// Appends the bytes that a child's string stands for.
-pub(crate) fn unhex(text: &[u8], bytes: &mut ArrayVec<u8, ROOM>)
-    requires string { is_string text.now ≡ true }
+// The bytes that a block of digits stands for.
+fn unhex_block(digits: &[u8; 32]) -> [u8; 16]
+    requires { is_hex digits.now ≡ true }
+    ensures { result ≡ unhexed digits.now }
+{
+    let mut bytes = [0; 16];
+    for i in 0..16 {
+        bytes[i] = 16 * worth(digits[2 * i]) + worth(digits[2 * i + 1]);
+    }
+    bytes
+}
+
+// Appends the bytes that digits stand for, pair by pair.
+fn unhex_pairs(text: &[u8], bytes: &mut ArrayVec<u8, ROOM>)
+    requires pairs { (nat_lt (length text.now) 2 || is_hex text.now) ≡ true }
     requires room { 2 * length bytes.old.items + length text.now ≤ 4096 }
     ensures half { 2 * length bytes.new.items ≤ 2 * length bytes.old.items + length text.now }
     ensures items { bytes.new.items ≡ bytes.old.items ++ unhexed text.now }
@@ -47,6 +59,22 @@ pub(crate) fn unhex(text: &[u8], bytes: &mut ArrayVec<u8, ROOM>)
         bytes.push(16 * worth(pair[0]) + worth(pair[1]));
         rest = after;
     }
+}
+
+// Appends the bytes that a child's string stands for. They go in by blocks, and those left over one
+// by one, since a vector counts anew at each push.
+pub(crate) fn unhex(text: &[u8], bytes: &mut ArrayVec<u8, ROOM>)
+    requires string { is_string text.now ≡ true }
+    requires room { 2 * length bytes.old.items + length text.now ≤ 4096 }
+    ensures half { 2 * length bytes.new.items ≤ 2 * length bytes.old.items + length text.now }
+    ensures items { bytes.new.items ≡ bytes.old.items ++ unhexed text.now }
+{
+    let mut rest = text;
+    while let Some((digits, after)) = rest.split_first_chunk::<32>() {
+        let _ = bytes.try_extend_from_slice(&unhex_block(digits));
+        rest = after;
+    }
+    unhex_pairs(rest, bytes);
 }
 
 // Writes the digits of bytes at the front of a buffer.

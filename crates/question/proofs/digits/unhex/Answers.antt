@@ -1,16 +1,25 @@
-use Rattle.std.proofs.Common.{◌+◌, ◌*◌, ◌∷◌, ◌++◌, sym, ap, ◌∙◌, ap₂, arith}
+use Rattle.std.proofs.Common.{◌≡◌, ◌++◌, sym, ap, ◌∙◌, append_assoc, rules}
 use Rattle.question.specs.Digits.{unhex}
-use Rattle.question.proofs.HexTexts.{pair_from, front_more}
+use Rattle.question.proofs.HexTexts.{block_from}
 use Rattle.question.proofs.digits.unhex.Goals as goal
 
-pub loop-pair-preserved : goal.loop-pair-preserved
-loop-pair-preserved c =
+pub unhex_block-requires : goal.unhex_block-requires
+unhex_block-requires c =
     let cut = c.in-Some.ensures.cases in
-    let rest = c.loop-pair.rest.now in
+    (block_from c.loop-digits.rest.now c.in-Some.digits.now c.in-Some.after.now cut.0 cut.1 cut.2 c.loop-digits.invariant.2).0
+
+pub loop-digits-preserved : goal.loop-digits-preserved
+loop-digits-preserved c =
+    let cut = c.in-Some.ensures.cases in
+    let digits = c.in-Some.digits.now in
     let after = c.in-Some.after.now in
-    let pair = pair_from rest c.in-Some.pair.now after cut.0 cut.1 cut.2 c.loop-pair.invariant.2 in
-    let value = ap₂ (λ h l. 16 * h + l) c.worth.ensures.value c.worth-in-Some.ensures.value in (
-      ap (λ z. z ++ unhex after) c.push.ensures.items ∙ front_more c.loop-pair.bytes.items rest after _ _ (pair.value ∙ sym (ap (λ v. v ∷ unhex after) value)) c.loop-pair.invariant.0,
-      omega (arith, cut.2, c.push.ensures.len),
-      pair.more,
+    let block = block_from c.loop-digits.rest.now digits after cut.0 cut.1 cut.2 c.loop-digits.invariant.2 in
+    let there = c.loop-digits.bytes.items in
+    let grown : c.try_extend_from_slice.new.self.items ≡ there ++ c.unhex_block.result = search rules in (
+      ap (λ z. z ++ unhex after) (grown ∙ ap (λ z. there ++ z) c.unhex_block.ensures)
+          ∙ append_assoc there (unhex digits) (unhex after)
+          ∙ ap (λ z. there ++ z) (sym block.2)
+          ∙ c.loop-digits.invariant.0,
+      search rules,
+      block.1,
     )
