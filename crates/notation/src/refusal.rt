@@ -7,6 +7,8 @@ use crate::decimal::push_decimal;
 use crate::text::Text;
 use syntax::fault::Fault;
 
+// It stands within its callers, so that the text is made in its place, and not copied there.
+#[inline(always)]
 pub fn refusal_text(fault: Fault) -> Text
     ensures text { text_of result ≡ shown fault }
     ensures len { length (text_of result) ≤ 9 }
