@@ -9,7 +9,8 @@ use typing::head::{Head, Token};
 // The labels in the order of a record's places.
 const LABELS: [Label; 4] = [Label::Row, Label::Col, Label::Ink, Label::Lit];
 
-// The bytes that are left to print, and how far the buffer is written.
+// The bytes that are left to print, and how far the lent buffer is written. Each method keeps the loan
+// (`lent`): by that the lender learns what its buffer holds in the end.
 #[derive(Drop)]
 pub(crate) struct Printer<'a> {
     pub(crate) rest: &'a [u8],
