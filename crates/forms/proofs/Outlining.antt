@@ -1,5 +1,5 @@
 -- Reading a typing string, step by step, and where its parts stand. Assumes nothing.
-use Rattle.std.proofs.Common.{◌≡◌, ℕ, ◌+◌, ◌-◌, List, ◌∷◌, ◌++◌, length, drop, Some, None, Ok, Option, Result, sym, refl, ap, ◌∙◌, arith, length-append}
+use Rattle.std.proofs.Common.{◌≡◌, ℕ, ◌+◌, ◌-◌, ◌⊎◌, inl, inr, List, ◌∷◌, ◌++◌, length, drop, Some, None, Ok, Option, Result, sym, refl, ap, ◌∙◌, arith, length-append}
 use Rattle.std.proofs.lemmas.List.{append_assoc, drop_at}
 use Rattle.layout.specs.Groups.{group}
 use Rattle.syntax.specs.declared.fault.Fault.{Fault}
@@ -9,7 +9,7 @@ use Rattle.typing.specs.Forms.{Form}
 use Rattle.typing.specs.Strings as strings
 use Rattle.typing.proofs.GroupReading.{then_is}
 use Rattle.typing.proofs.StringsRead.{typing_read}
-use Rattle.forms.specs.Outlines.{entries_offset, type_offset, form_of, outlined, shape_of, shaped, FormStands}
+use Rattle.forms.specs.Outlines.{entries_offset, type_offset, form_of, outlined, shape_of, shaped, BareEnds, FormStands}
 use Rattle.forms.specs.declared.outline.FormOutline.{FormOutline}
 use Rattle.forms.specs.declared.outline.Outline.{Outline}
 use Rattle.forms.specs.declared.outline.Untyped.{Untyped}
@@ -59,3 +59,11 @@ form_stands text T F bytes is form =
     let spelled : text ≡ counts (strings.status_byte T.status) (n ++ (es ++ t)) = (typing_read 4 text T bytes is).1 ∙ ap (λ s. counts (strings.status_byte T.status) (status_bytes s)) form in
     let regrouped : text ≡ counts (strings.status_byte T.status) ((n ++ es) ++ t) = spelled ∙ ap (counts (strings.status_byte T.status)) (sym (append_assoc n es t)) in
     (ap (drop (entries_offset T F)) spelled ∙ behind_parts (entries_offset T F) (strings.status_byte T.status) (group T.clashes) (group T.overlongs) (group T.holes) n (es ++ t) refl, ap (drop (type_offset T F)) regrouped ∙ behind_parts (type_offset T F) (strings.status_byte T.status) (group T.clashes) (group T.overlongs) (group T.holes) (n ++ es) t (omega (arith, length-append n es)))
+
+pub bare_ends : BareEnds
+bare_ends text T bytes is none =
+    omega (arith, ap length (typing_read 4 text T bytes is).1, by_status none, length-append (group T.clashes) (group T.overlongs ++ (group T.holes ++ status_bytes T.status)), length-append (group T.overlongs) (group T.holes ++ status_bytes T.status), length-append (group T.holes) (status_bytes T.status))
+  where
+    by_status : (T.status ≡ clashed) ⊎ (T.status ≡ overlong) → length (status_bytes T.status) ≡ 0
+    by_status (inl e) = ap (λ s. length (status_bytes s)) e
+    by_status (inr e) = ap (λ s. length (status_bytes s)) e

@@ -1,5 +1,5 @@
 -- The outline of a typing string: what its reader tells of it. Assumes nothing.
-use Rattle.std.specs.Prelude.{◌≡◌, ℕ, ◌+◌, ◌-◌, ◌<◌, cond, List, [], ◌∷◌, ◌++◌, map, length, drop, Some, None, Ok, Err, Option, Result, MatchResult, ◌==◌}
+use Rattle.std.specs.Prelude.{◌≡◌, ℕ, ◌+◌, ◌-◌, ◌<◌, cond, List, [], ◌∷◌, ◌++◌, map, length, drop, Some, None, Ok, Err, Option, Result, MatchResult, ◌==◌, ◌⊎◌}
 use Rattle.std.specs.Borrow.{Bor}
 use Rattle.layout.specs.Groups.{group}
 use Rattle.syntax.specs.declared.fault.Fault.{Fault}
@@ -87,6 +87,11 @@ abbrev pub FormStands : Type 0
 FormStands =
     (text : List ℕ) (T : Typing) (F : Form) → Bytes text → read_typing 4 text ≡ Some T → T.status ≡ formed F → (drop (entries_offset T F) text ≡ entries_bytes F.entries ++ term_bytes F.result) × (drop (type_offset T F) text ≡ term_bytes F.result)
 
+-- A lawful string without a form ends behind its counts.
+abbrev pub BareEnds : Type 0
+BareEnds =
+    (text : List ℕ) (T : Typing) → Bytes text → read_typing 4 text ≡ Some T → (T.status ≡ clashed) ⊎ (T.status ≡ overlong) → length text ≡ 1 + length (group T.clashes) + length (group T.overlongs) + length (group T.holes)
+
 -- some strings with their outlines: a hole, a clash, two names that are listed, and a variable that is read
 -- as a place and then as a type
 abbrev pub worked : List (List ℕ × Result Outline Fault)
@@ -103,5 +108,15 @@ worked = (
     (0 ∷ 0 ∷ 0 ∷ 0 ∷ 0 ∷ 2 ∷ 5 ∷ 3 ∷ 3 ∷ 4 ∷ 5 ∷ [], Err Unlawful) ∷
     []
 
+-- what an outline of a string of this length tells of names, variables and places
+abbrev pub told : ℕ → Result Outline Fault → List ℕ
+told len (Err fault) = []
+told len (Ok o) = names_in o ∷ variables_in o ∷ (places_in len o).0 ∷ (places_in len o).1 ∷ []
+
+-- the same of the strings above: where there is no form, none and none and the string's end
+abbrev pub worked_figures : List (List ℕ)
+worked_figures = (0 ∷ 1 ∷ 5 ∷ 5 ∷ []) ∷ (0 ∷ 0 ∷ 4 ∷ 4 ∷ []) ∷ (2 ∷ 2 ∷ 5 ∷ 17 ∷ []) ∷ [] ∷ []
+
 abbrev pub WorkedOutlines : Type 0
-WorkedOutlines = map (λ row. outlined (read_typing 4 row.0)) worked ≡ map (λ row. row.1) worked
+WorkedOutlines =
+    (map (λ row. outlined (read_typing 4 row.0)) worked ≡ map (λ row. row.1) worked) × (map (λ row. told (length row.0) row.1) worked ≡ worked_figures)

@@ -12,7 +12,7 @@ pub const MOST_CELLS: usize = 1440;
 // time than all the rest of a small question.
 #[derive(Drop)]
 pub struct Table {
-    pub cells: [Cell; MOST_CELLS],
-    pub len: usize,
+    pub(crate) cells: [Cell; MOST_CELLS],
+    pub(crate) len: usize,
     ghost within: { len ≤ 1440 },
 }

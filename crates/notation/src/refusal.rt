@@ -7,7 +7,7 @@ use crate::decimal::push_decimal;
 use crate::text::Text;
 use syntax::fault::Fault;
 
-// It stands within its callers, so that the text is made in its place, and not copied there.
+// The text of a refusal. It is made within the caller, and so in its place and not copied there.
 #[inline(always)]
 pub fn refusal_text(fault: Fault) -> Text
     ensures text { text_of result ≡ shown fault }

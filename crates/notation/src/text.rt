@@ -1,4 +1,4 @@
-// A short text that is held by value: what a call writes is made here first, so that a refusal
+// A short text that is held by value: lines, nodes and arguments are made here first, so that a refusal
 // leaves the caller's buffer as it was.
 ghost use Rattle.std.specs.Prelude.{◌≤◌};
 

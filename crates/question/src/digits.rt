@@ -71,6 +71,7 @@ pub(crate) fn unhex(text: &[u8], bytes: &mut ArrayVec<u8, ROOM>)
 {
     let mut rest = text;
     while let Some((digits, after)) = rest.split_first_chunk::<32>() {
+        // There is room for them, so nothing is refused.
         let _ = bytes.try_extend_from_slice(&unhex_block(digits));
         rest = after;
     }
